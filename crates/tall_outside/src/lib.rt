@@ -1,0 +1,13 @@
+//! The outside of the program: the traits of a shelf of files, a sink for bytes and a gate between
+//! two steps of a worker, with implementations in memory for tests and over the host's own files.
+//!
+//! Every count of this crate that stands at the last value of u64 stays there and is taken as risen.
+#![tactic(auto)]
+
+pub mod gate;
+pub mod shelf;
+pub mod sink;
+
+pub use gate::{Gate, OpenGate};
+pub use shelf::{Failed, Opening, Shelf};
+pub use sink::{Sink, WriteFault};
