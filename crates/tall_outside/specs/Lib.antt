@@ -1,3 +1,4 @@
 pub mod Count
+pub mod MemShelf
 pub mod Shelf
 pub mod Sink

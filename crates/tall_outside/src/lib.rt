@@ -5,9 +5,11 @@
 #![tactic(auto)]
 
 pub mod gate;
+pub mod mem_shelf;
 pub mod shelf;
 pub mod sink;
 
 pub use gate::{Gate, OpenGate};
+pub use mem_shelf::{MemShelf, has_distinct_names};
 pub use shelf::{Failed, Opening, Shelf};
 pub use sink::{Sink, WriteFault};
