@@ -1,6 +1,6 @@
 use Rattle.std.proofs.Common.{◌≡◌, ◌+◌, ◌≤◌, [], List, ℕ, length, drop, length-drop, length-append, rules, arith, sym, ap, ◌∙◌}
 use Rattle.std.proofs.lemmas.List.{nil_from_length}
-use Rattle.tall_outside.specs.MemShelf.{left_of, left_in, file_at}
+use Rattle.tall_outside.specs.MemShelf.{left_in, file_at}
 use Rattle.tall_outside.proofs.Files.{left_in-add, front_and_rest}
 use Rattle.tall_outside.proofs.mem_shelf.MemShelfShelf.read.Goals as goal
 
