@@ -117,3 +117,67 @@ impl<W: Write> Sink for HostSink<W> {
         }
     }
 }
+
+#[cfg(test)]
+mod tests {
+    use super::*;
+    use std::io;
+    use std::test::Fail;
+
+    #[test]
+    fn reads_the_files_of_the_folder(rt: HostRuntime) -> Result<(), Fail> {
+        fs::write(&rt, "a.csv", "x\n1\n2\n")?;
+        let mut shelf = HostShelf::new(rt.clone()?);
+        let mut buf = [0u8; 4];
+        assert_eq!(rt; shelf.read(&mut buf), Ok(0));
+        assert_eq!(rt; shelf.open("a.csv"), Opening::Opened);
+        assert_eq!(rt; shelf.read(&mut buf), Ok(4));
+        assert_eq!(rt; buf.as_slice(), b"x\n1\n".as_slice());
+        assert_eq!(rt; shelf.read(&mut buf), Ok(2));
+        assert_eq!(rt; shelf.read(&mut buf), Ok(0));
+        assert_eq!(rt; (shelf.came, shelf.misses, shelf.faults), (6, 0, 0));
+        assert_eq!(rt; shelf.open("none.csv"), Opening::NoSuch);
+        assert_eq!(rt; shelf.read(&mut buf), Ok(0));
+        assert_eq!(rt; (shelf.came, shelf.misses, shelf.faults), (0, 1, 0));
+        assert_eq!(rt; shelf.open("a.csv/inside"), Opening::Failed);
+        assert_eq!(rt; shelf.open("."), Opening::Opened);
+        assert_eq!(rt; shelf.read(&mut buf), Err(Failed));
+        assert_eq!(rt; (shelf.came, shelf.misses, shelf.faults), (0, 1, 2));
+        Ok(())
+    }
+
+    /// A writer that takes one byte, then none, and then fails.
+    #[derive(Drop)]
+    struct Closing(u8);
+
+    impl Write for Closing {
+        fn write(&mut self, buf: &[u8]) -> io::Result<usize> {
+            self.0 = self.0.saturating_add(1);
+            match self.0 {
+                1 => Ok(buf.len().min(1)),
+                2 => Ok(0),
+                _ => Err(io::Error::from(ErrorKind::BrokenPipe)),
+            }
+        }
+
+        fn flush(&mut self) -> io::Result<()> {
+            Ok(())
+        }
+    }
+
+    #[test]
+    fn writes_to_a_file_and_counts_refusals(rt: HostRuntime) -> Result<(), Fail> {
+        let mut sink = HostSink::new(fs::create(&rt, "out.txt")?);
+        assert_eq!(rt; sink.write(b"s = 1\n"), Ok(6));
+        assert_eq!(rt; sink.write(b""), Ok(0));
+        assert_eq!(rt; sink.faults, 0);
+        assert_eq!(rt; fs::read_to_string(&rt, "out.txt")?.as_str(), "s = 1\n");
+
+        let mut closing = HostSink::new(Closing(0));
+        assert_eq!(rt; closing.write(b"ab"), Ok(1));
+        assert_eq!(rt; closing.write(b"b"), Ok(0));
+        assert_eq!(rt; closing.write(b"b"), Err(WriteFault::Failed));
+        assert_eq!(rt; closing.faults, 2);
+        Ok(())
+    }
+}

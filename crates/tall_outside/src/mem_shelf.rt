@@ -223,3 +223,111 @@ fn note(names: &mut Vec<String>, name: &str) -> Result<(), AllocError>
     names.push(name)?;
     Ok(())
 }
+
+#[cfg(test)]
+mod tests {
+    use super::*;
+    use std::process::Abort;
+    use std::test::Fail;
+
+    fn file(alloc: Global, name: &str, text: &str) -> Result<(String, Vec<u8>), AllocError> {
+        Ok((
+            String::from_str(alloc, name)?,
+            text.as_bytes().to_vec(alloc)?,
+        ))
+    }
+
+    /// A shelf of `a.csv` with six bytes and an empty `b.csv`.
+    fn two_files(rt: &impl Abort, alloc: Global) -> Result<MemShelf, AllocError> {
+        let files = vec![in alloc;
+            file(alloc, "a.csv", "x\n1\n2\n")?,
+            file(alloc, "b.csv", "")?,
+        ]?;
+        assert!(rt; has_distinct_names(files.as_slice()));
+        MemShelf::new(alloc, files)
+    }
+
+    #[test]
+    fn reads_each_opened_file_from_its_first_byte(rt: HostRuntime) -> Result<(), Fail> {
+        let mut shelf = two_files(&rt, rt.alloc())?;
+        let mut buf = [0u8; 4];
+        assert_eq!(rt; shelf.open("a.csv"), Opening::Opened);
+        assert_eq!(rt; shelf.read(&mut buf), Ok(4));
+        assert_eq!(rt; buf.as_slice(), b"x\n1\n".as_slice());
+        assert_eq!(rt; shelf.read(&mut buf), Ok(2));
+        assert_eq!(rt; buf[..2], b"2\n"[..]);
+        assert_eq!(rt; shelf.read(&mut buf), Ok(0));
+        assert_eq!(rt; shelf.open("b.csv"), Opening::Opened);
+        assert_eq!(rt; shelf.read(&mut buf), Ok(0));
+        assert_eq!(rt; shelf.open("a.csv"), Opening::Opened);
+        assert_eq!(rt; shelf.read(&mut buf), Ok(4));
+        assert_eq!(rt; buf.as_slice(), b"x\n1\n".as_slice());
+        assert_eq!(rt;
+            (shelf.opens("a.csv"), shelf.opens("b.csv"), shelf.reads()),
+            (2, 1, 5)
+        );
+        assert_eq!(rt; shelf.faults(), 0);
+        Ok(())
+    }
+
+    #[test]
+    fn closes_the_open_file_at_a_missing_name(rt: HostRuntime) -> Result<(), Fail> {
+        let mut shelf = two_files(&rt, rt.alloc())?;
+        let mut buf = [0u8; 4];
+        assert_eq!(rt; shelf.open("a.csv"), Opening::Opened);
+        assert_eq!(rt; shelf.open("none.csv"), Opening::NoSuch);
+        assert_eq!(rt; shelf.read(&mut buf), Ok(0));
+        assert_eq!(rt;
+            (shelf.opens("none.csv"), shelf.misses, shelf.faults()),
+            (1, 1, 0)
+        );
+        Ok(())
+    }
+
+    #[test]
+    fn fails_the_planned_calls_and_loses_nothing(rt: HostRuntime) -> Result<(), Fail> {
+        let mut shelf = two_files(&rt, rt.alloc())?;
+        let mut buf = [0u8; 4];
+        shelf.fail_open(2)?;
+        shelf.fail_read(2)?;
+        assert_eq!(rt; shelf.open("a.csv"), Opening::Opened);
+        assert_eq!(rt; shelf.read(&mut buf), Ok(4));
+        assert_eq!(rt; shelf.read(&mut buf), Err(Failed));
+        assert_eq!(rt; shelf.faults(), 1);
+        assert_eq!(rt; shelf.read(&mut buf), Ok(2));
+        assert_eq!(rt; buf[..2], b"2\n"[..]);
+        assert_eq!(rt; shelf.open("a.csv"), Opening::Failed);
+        assert_eq!(rt; shelf.read(&mut buf), Ok(0));
+        assert_eq!(rt; shelf.open("a.csv"), Opening::Opened);
+        assert_eq!(rt;
+            (shelf.opens("a.csv"), shelf.reads(), shelf.faults()),
+            (3, 4, 2)
+        );
+        Ok(())
+    }
+
+    #[test]
+    fn gives_at_most_so_many_bytes_a_read(rt: HostRuntime) -> Result<(), Fail> {
+        let mut shelf = two_files(&rt, rt.alloc())?;
+        let mut buf = [0u8; 9];
+        shelf.give_at_most(5);
+        assert_eq!(rt; shelf.open("a.csv"), Opening::Opened);
+        assert_eq!(rt; shelf.read(&mut buf), Ok(5));
+        assert_eq!(rt; shelf.read(&mut buf), Ok(1));
+        assert_eq!(rt; shelf.read(&mut buf), Ok(0));
+        Ok(())
+    }
+
+    #[test]
+    fn finds_a_name_that_stands_twice(rt: HostRuntime) -> Result<(), Fail> {
+        let alloc = rt.alloc();
+        let files = vec![in alloc;
+            file(alloc, "a", "1")?,
+            file(alloc, "b", "2")?,
+            file(alloc, "a", "3")?,
+        ]?;
+        assert!(rt; !has_distinct_names(files.as_slice()));
+        assert!(rt; has_distinct_names(&files[1..]));
+        Ok(())
+    }
+}
