@@ -10,14 +10,14 @@ WriteRose (Ok n) piece before now = n ≡ 0 → 0 < length piece → Rose before
 WriteRose (Err w.Failed) piece before now = Rose before now
 WriteRose (Err w.Memory) piece before now = ⊤
 
--- the answer leaves the count as it was: some bytes were taken, or memory was wanting
-abbrev pub WriteKept : Result ℕ WriteFault → ℕ → ℕ → Type 0
-WriteKept (Ok n) before now = 0 < n → now ≡ before
-WriteKept (Err w.Failed) before now = ⊤
-WriteKept (Err w.Memory) before now = now ≡ before
+-- the answer leaves the count as it was: some bytes were taken, there were none, or memory was wanting
+abbrev pub WriteKept : Result ℕ WriteFault → List ℕ → ℕ → ℕ → Type 0
+WriteKept (Ok n) piece before now = (0 < n → now ≡ before) × (length piece ≡ 0 → now ≡ before)
+WriteKept (Err w.Failed) piece before now = ⊤
+WriteKept (Err w.Memory) piece before now = now ≡ before
 
 -- the count of refusals never falls, rises with each, and else stays
 pub record WriteCounts (result : Result ℕ WriteFault) (piece : List ℕ) (before now : ℕ) : Type 0 where
   pub later : before ≤ now
   pub rose : WriteRose result piece before now
-  pub kept : WriteKept result before now
+  pub kept : WriteKept result piece before now

@@ -5,9 +5,15 @@
 #![tactic(auto)]
 
 pub mod gate;
+pub mod host;
+pub mod mem_shelf;
+pub mod mem_sink;
 pub mod shelf;
 pub mod sink;
 
 pub use gate::{Gate, OpenGate};
+pub use host::{HostShelf, HostSink};
+pub use mem_shelf::{MemShelf, has_distinct_names};
+pub use mem_sink::MemSink;
 pub use shelf::{Failed, Opening, Shelf};
 pub use sink::{Sink, WriteFault};
