@@ -1,0 +1,5 @@
+pub mod Rows
+pub mod Blocks
+pub mod Feed
+pub mod Left
+pub mod Asked

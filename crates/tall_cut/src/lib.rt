@@ -1,0 +1,11 @@
+//! The records of a file in blocks: a file of a shelf is opened as a feed of bytes, and a cutter
+//! reads the feed's records with `csv`, as many at a time as its caller asked for.
+#![tactic(auto)]
+
+pub mod feed;
+mod opening;
+mod records;
+
+pub use feed::{Feed, FeedFault, Lent, OpenedFile, Refused};
+pub use opening::open_feed;
+pub use records::Records;
