@@ -68,9 +68,9 @@ closed_push ends ends2 all all2 more h f e p =
     }
 
 -- no record yet
-pub closed_start : (all : Row) → fields_of all ≡ [] → partial_of all ≡ [] → Closed [] all
+pub closed_start : (ends : List ℕ) (all : Row) → ends ≡ [] → fields_of all ≡ [] → partial_of all ≡ [] → Closed ends all
 unfolding Rising last_end
-closed_start all f p = record { rising = omega arith; last = sym (ap length f); partial = p }
+closed_start ends all e f p = rw e (record { rising = omega arith; last = sym (ap length f); partial = p })
 
 pub groups_none : (fields : Fields) → groups 0 [] fields ≡ []
 unfolding groups

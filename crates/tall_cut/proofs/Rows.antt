@@ -8,8 +8,8 @@ use Rattle.csv.specs.declared.parser.Config.{Config}
 use Rattle.csv.specs.declared.parser.State.{State}
 use Rattle.csv.specs.declared.parser.State.TheVariants as st
 use Rattle.csv.specs.declared.reader.Reader.{Reader}
-use Rattle.csv.specs.Reading.{NextIs, ReadRecord, ReadsNext, Ready, pending_of, reader_config, reader_headers, reader_state, took_first, records_from, records_next, source_of}
-use Rattle.tall_cut.specs.Rows.{Fields, IsCutting, NoneLeft, Takes, TakesMany, records_left, rows_from}
+use Rattle.csv.specs.Reading.{NextIs, ReadRecord, ReadsNext, Ready, pending_of, reader_config, reader_headers, reader_state, took_first, records_from, records_next, source_of, strip_bom}
+use Rattle.tall_cut.specs.Rows.{Fields, IsCutting, NoneLeft, Takes, TakesMany, delimited, file_records, records_left, rows_from}
 
 -- a record leaves fewer bytes, or the start of nothing
 abbrev Shorter : Read → ℕ → Type 0
@@ -166,3 +166,9 @@ pub none_taken : (start before : Option (List Fields)) → TakesMany start [] be
 none_taken None before m n = tt
 none_taken (Some all) None m n = absurd m
 none_taken (Some all) (Some rows) m n = m ∙ n
+
+-- a new reader has all records of what stands under it
+pub fresh_left : {R : Type 0} (rem : R → Option (List ℕ)) (r : Reader R) (delimiter : ℕ) (known : Option (List ℕ)) → reader_config r ≡ delimited delimiter → reader_state r ≡ st.StartRecord
+    → source_of rem r ≡ option_map strip_bom known → records_left rem r ≡ option_map (file_records delimiter) known
+fresh_left rem r delimiter None c s e = rw e refl
+fresh_left rem r delimiter (Some xs) c s e = rw (e, c, s) refl

@@ -3,3 +3,5 @@ pub mod Blocks
 pub mod Feed
 pub mod Left
 pub mod Asked
+pub mod Gather
+pub mod Cuts

@@ -104,6 +104,7 @@ pub(crate) fn add(
 ) -> Result<(), AllocError>
     requires { Closed ends.old.items fields.old }
     ensures closed { OnOk result (Closed ends.new.items fields.new) }
+    ensures count { OnOk result (length ends.new.items ≡ length ends.old.items + 1) }
     ensures rows { OnOk result (groups 0 ends.new.items (fields_of fields.new) ≡ groups 0 ends.old.items (fields_of fields.old) ++ fields_of row.now ∷ []) }
 {
     append(fields, row)?;
