@@ -1,0 +1,7 @@
+use Rattle.std.proofs.Common.{◌∙◌, sym}
+use Rattle.csv.specs.Records.{fields_of}
+use Rattle.tall_cut.proofs.Blocks.{groups_length}
+use Rattle.tall_cut.proofs.records.Records.len.Goals as goal
+
+pub returns : goal.returns
+returns c = rw (← c.self.view_is) (c.len.ensures ∙ c.self.inside.ends.ok.0 ∙ sym (groups_length 0 c.self.inside.ends.items (fields_of c.self.inside.fields)))

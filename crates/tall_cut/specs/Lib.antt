@@ -1,0 +1,7 @@
+pub mod Rows
+pub mod Blocks
+pub mod Feed
+pub mod Left
+pub mod Asked
+pub mod Gather
+pub mod Cuts

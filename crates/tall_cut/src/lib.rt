@@ -1,0 +1,14 @@
+//! The records of a file in blocks: a file of a shelf is opened as a feed of bytes, and a cutter
+//! reads the feed's records with `csv`, as many at a time as its caller asked for.
+#![tactic(auto)]
+
+pub mod cutter;
+pub mod feed;
+mod gather;
+mod opening;
+mod records;
+
+pub use cutter::{Cause, Cutter, Next, ReadSize};
+pub use feed::{Feed, FeedFault, Lent, OpenedFile, Refused};
+pub use opening::open_feed;
+pub use records::Records;
