@@ -1,5 +1,5 @@
-//! The eight integer classes and saturating sums.
-ghost use Rattle.std.specs.Prelude.{◌≡◌, ℤ, ℕ, List, pos, negsuc, codes, ◌+ℤ◌, ◌≤ℤ◌};
+//! The eight integer classes.
+ghost use Rattle.std.specs.Prelude.{◌≡◌, ℤ, ℕ, List, pos, negsuc, codes, ◌≤ℤ◌};
 ghost use Rattle.std.proofs.Common.{rules};
 ghost use Rattle.tall_int.specs.Numbers.{nearest, IsTwosRange, signed, unsigned};
 
@@ -307,11 +307,4 @@ pub fn clamp<I: IntClass>(n: i128) -> I
     ensures { I.number result ≡ nearest I.MIN I.MAX n }
 {
     I::from_wide(n.min(I::MAX).max(I::MIN))
-}
-
-/// The sum of two values, saturated.
-pub fn sat_add<I: IntClass>(a: I, b: I) -> I
-    ensures { I.number result ≡ nearest I.MIN I.MAX (I.number a +ℤ I.number b) }
-{
-    clamp(a.wide() + b.wide())
 }

@@ -1,0 +1,9 @@
+-- Sums of columns of one integer class. MathWorks, sum with 'native', and Integers: each row is added in the class, so
+-- the sum goes to the nearest number of the class after each row, in row order.
+use Rattle.std.specs.Prelude.{ℤ, ◌+ℤ◌, List, [], ◌∷◌}
+use Rattle.tall_int.specs.Numbers.{nearest}
+
+-- the sum of the rows from `start` on, kept from `low` to `high` at each row
+abbrev pub clamped_sum : ℤ → ℤ → ℤ → List ℤ → ℤ
+clamped_sum low high start [] = start
+clamped_sum low high start (x ∷ xs) = clamped_sum low high (nearest low high (start +ℤ x)) xs
