@@ -1,6 +1,6 @@
 -- Records in one long record: what a row more does to them, and where their fields stand.
 use Rattle.std.proofs.Common.{◌≡◌, ◌≤◌, ◌<◌, ◌-◌, ◌+◌, ◌∙◌, ℕ, zero, suc, get_or, List, [], ◌∷◌, ◌++◌, take, drop, length, refl, sym, ap, arith}
-use Rattle.std.proofs.lemmas.List.{drop-append-le, drop_all, get_or-drop, get_or-take, length-append, length-drop, length-take, length-take-le, take-append-le, take_all}
+use Rattle.std.proofs.lemmas.List.{drop-append-le, get_or-drop, get_or-take, length-append, length-drop, length-take-le, take-append-le, take_all}
 use Rattle.csv.specs.Records.{Rising, Row, fields_of, last_end, partial_of, prev}
 use Rattle.csv.proofs.RecordFacts.{field-bounds, last-append, rising-end, rising-first, rising-more}
 use Rattle.csv.proofs.ReadFacts.{get-same}

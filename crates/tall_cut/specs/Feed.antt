@@ -1,5 +1,5 @@
 -- The bytes that a feed still gives, and what is known of the file under it.
-use Rattle.std.specs.Prelude.{◌≡◌, ◌+◌, ◌≤◌, ℕ, List, [], ◌∷◌, ◌++◌, Option, None, Some, length, option_map, nat_le, if◌then◌else◌, ⊤}
+use Rattle.std.specs.Prelude.{◌+◌, ◌≤◌, ℕ, List, Option, None, Some, length, nat_le, if◌then◌else◌, ⊤}
 use Rattle.std.specs.Coded.{Unit-prop, le_prop}
 
 -- what is left of a file where no more than the limit comes in all, else nothing that is known

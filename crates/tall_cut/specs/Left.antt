@@ -1,5 +1,5 @@
 -- What a feed and a cutter have left.
-use Rattle.std.specs.Prelude.{◌≡◌, ℕ, List, Option}
+use Rattle.std.specs.Prelude.{ℕ, List, Option}
 use Rattle.tall_outside.specs.declared.shelf.Shelf as shelf
 use Rattle.tall_cut.specs.declared.feed.OpenedFile as opened
 use Rattle.tall_cut.specs.declared.feed.Feed.{Feed}

@@ -83,7 +83,12 @@ impl<'s, S: Shelf, K: OpenedFile> Cutter<'s, S, K> {
     /// A cutter of what the feed gives. It reads nothing yet.
     ///
     /// Any byte may stand between fields.
-    pub fn new(alloc: Global, feed: Feed<'s, S, K>, delimiter: u8, size: ReadSize) -> Cutter<'s, S, K>
+    pub fn new(
+        alloc: Global,
+        feed: Feed<'s, S, K>,
+        delimiter: u8,
+        size: ReadSize,
+    ) -> Cutter<'s, S, K>
         requires { 0 < rows_of size }
         ensures left { cutter_left result ≡ option_map (file_records delimiter) (feed_left feed.entry) }
         ensures rows { block_rows result ≡ rows_of size }
@@ -136,7 +141,13 @@ impl<'s, S: Shelf, K: OpenedFile> Cutter<'s, S, K> {
         }
         let mut fields = ByteRecord::new(self.alloc);
         let mut ends = Vec::new(self.alloc);
-        let progress = gather(&mut self.reader, &mut self.row, &mut fields, &mut ends, rows);
+        let progress = gather(
+            &mut self.reader,
+            &mut self.row,
+            &mut fields,
+            &mut ends,
+            rows,
+        );
         self.progress = progress;
         match progress {
             Progress::Stopped => Next::Stopped,

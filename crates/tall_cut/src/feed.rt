@@ -133,15 +133,15 @@ impl<'s, S: Shelf, K: OpenedFile> Read for Feed<'s, S, K> {
 impl<'s, S: Shelf, K: OpenedFile> Feed<'s, S, K> {
     ghost use Rattle.tall_cut.specs.Asked.{Returns};
 
-    /// Whether a read of the shelf failed.
-    pub fn failed(&self) -> bool
+    // Whether a read of the shelf failed.
+    pub(crate) fn failed(&self) -> bool
         ensures { result ≡ self.now.failed }
     {
         self.failed
     }
 
-    /// Whether more bytes came than the limit.
-    pub fn too_large(&self) -> bool
+    // Whether more bytes came than the limit.
+    pub(crate) fn too_large(&self) -> bool
         ensures { result ≡ self.now.too_large }
     {
         self.too_large

@@ -8,12 +8,12 @@ gather-progress-requires-clause-closed g c = closed_start _ _ c.new-ends.ensures
 pub returns-in-Ended-progress-clause-cuts : goal.returns-in-Ended-progress-clause-cuts
 returns-in-Ended-progress-clause-cuts g c =
     let none = no_place _ _ c.gather-progress.new.ends.items c.is_empty.ensures c.if-is_empty.true c.gather-progress.new.ends.ok.0 in
-    (end_cuts _ _ _ _ _ _ c.in-Reading.is c.in-Ended-progress.ensures.gathers none, c.in-Ended-progress.is)
+    (end_cuts _ _ _ _ _ c.in-Reading.is c.in-Ended-progress.ensures.gathers none, c.in-Ended-progress.is)
 
 pub returns-in-Ended-2-clause-cuts : goal.returns-in-Ended-2-clause-cuts
 returns-in-Ended-2-clause-cuts g c =
     let some = some_place _ _ c.gather-progress.new.ends.items c.is_empty.ensures c.if-is_empty.false c.gather-progress.new.ends.ok.0 in
-    last_cuts _ _ _ _ _ _ _ _ _ c.in-Reading.is c.in-Ended-2.is c.in-Ended-2.ensures.gathers some c.of.ensures
+    last_cuts _ _ _ _ _ _ _ _ c.in-Reading.is c.in-Ended-2.is c.in-Ended-2.ensures.gathers some c.of.ensures
 
 pub returns-in-Reading-progress-clause-cuts : goal.returns-in-Reading-progress-clause-cuts
 returns-in-Reading-progress-clause-cuts g c =

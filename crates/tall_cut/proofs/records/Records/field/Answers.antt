@@ -1,5 +1,4 @@
-use Rattle.std.proofs.Common.{◌≡◌, ◌<◌, ◌+◌, ◌∙◌, arith, length}
-use Rattle.csv.specs.Records.{fields_of, prev}
+use Rattle.std.proofs.Common.{◌∙◌, arith}
 use Rattle.tall_cut.proofs.Blocks.{field_inside, field_is, place_inside}
 use Rattle.tall_cut.proofs.records.Records.field.Goals as goal
 

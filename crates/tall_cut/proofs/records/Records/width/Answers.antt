@@ -1,5 +1,3 @@
-use Rattle.std.proofs.Common.{◌≡◌, ◌<◌, ◌≤◌, ◌∙◌, arith, get_or, length}
-use Rattle.csv.specs.Records.{prev}
 use Rattle.tall_cut.proofs.Blocks.{place_inside, width_is, width_low}
 use Rattle.tall_cut.proofs.records.Records.width.Goals as goal
 
