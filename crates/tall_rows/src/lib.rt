@@ -1,0 +1,5 @@
+//! Scripts with their files, and what the program prints of them: tests alone, of the one call that does all.
+#![tactic(auto)]
+
+#[cfg(test)]
+mod tests;

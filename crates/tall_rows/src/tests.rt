@@ -1,0 +1,278 @@
+//! Worked runs, each with its words and files, and the status, text and line that it gives.
+
+use std::alloc::Global;
+use std::process::Abort;
+use std::test::Fail;
+use std::thread::Threads;
+use tall_outside::{MemShelf, MemSink, OpenGate, has_distinct_names};
+use tall_session::{Status, run};
+
+const SCRIPT: &str =
+    "ds = tabularTextDatastore('a.csv', 'TextscanFormats', {'%d16'});\nT = tall(ds);\ns = sum(T.x, 'native');\ns = gather(s)\n";
+
+const USAGE: &str = "tallrun: usage: tallrun [--workers N] SCRIPT\n";
+
+const NOT_BUILT: &str = "tallrun: not built\n";
+
+/// A run that is given, and what it has to come to.
+struct Row {
+    name: &'static str,
+    words: &'static [&'static str],
+    files: &'static [(&'static str, &'static str)],
+    status: Status,
+    text: &'static str,
+    line: &'static str,
+}
+
+fn words_of(alloc: Global, words: &[&str]) -> Result<Vec<String>, Fail> {
+    let mut all = Vec::new(alloc);
+    for word in words {
+        all.push(String::from_str(alloc, word)?)?;
+    }
+    Ok(all)
+}
+
+fn shelf_of<R: Abort>(rt: &R, alloc: Global, files: &[(&str, &str)]) -> Result<MemShelf, Fail> {
+    let mut all = Vec::new(alloc);
+    for (name, text) in files {
+        all.push((
+            String::from_str(alloc, name)?,
+            text.as_bytes().to_vec(alloc)?,
+        ))?;
+    }
+    assert!(rt; has_distinct_names(&all));
+    Ok(MemShelf::new(alloc, all)?)
+}
+
+/// The status, and what the two sinks have.
+fn ending<R: Threads + Sync>(
+    rt: &R,
+    alloc: Global,
+    words: &[&str],
+    shelf: &mut MemShelf,
+    out: &mut MemSink,
+    err: &mut MemSink,
+) -> Result<Status, Fail> {
+    let words = words_of(alloc, words)?;
+    Ok(run(rt, alloc, &words, &OpenGate, shelf, out, err))
+}
+
+/// Runs a row over fakes, and compares all that it shows.
+fn check_row<R: Threads + Sync + Abort>(rt: &R, alloc: Global, row: &Row) -> Result<(), Fail> {
+    let mut shelf = shelf_of(rt, alloc, row.files)?;
+    let mut out = MemSink::new(alloc);
+    let mut err = MemSink::new(alloc);
+    let status = ending(rt, alloc, row.words, &mut shelf, &mut out, &mut err)?;
+    let name = row.name;
+    assert_eq!(rt; status, row.status, "{name}");
+    assert_eq!(rt; out.bytes(), row.text.as_bytes(), "{name}");
+    assert_eq!(rt; err.bytes(), row.line.as_bytes(), "{name}");
+    Ok(())
+}
+
+const GO: &[&str] = &["tallrun", "s.m"];
+
+/// What the script prints, and where it or its data isn't what runs today.
+const SUMS: &[Row] = &[
+    Row {
+        name: "a saturated sum goes on from the end of the class",
+        words: GO,
+        files: &[("s.m", SCRIPT), ("a.csv", "x\n30000\n5000\n-1000\n")],
+        status: Status::Done,
+        text: "s = int16 31767\n",
+        line: "",
+    },
+    Row {
+        name: "a sum below zero",
+        words: GO,
+        files: &[("s.m", SCRIPT), ("a.csv", "x\n30000\n30000\n-32768\n")],
+        status: Status::Done,
+        text: "s = int16 -1\n",
+        line: "",
+    },
+    Row {
+        name: "no rows",
+        words: GO,
+        files: &[("s.m", SCRIPT), ("a.csv", "x\n")],
+        status: Status::Done,
+        text: "s = int16 0\n",
+        line: "",
+    },
+    Row {
+        name: "a mark at the front, other line ends, and none at the end",
+        words: GO,
+        files: &[("s.m", SCRIPT), ("a.csv", "\u{feff}x\r\n1\r\n\r\n-3")],
+        status: Status::Done,
+        text: "s = int16 -2\n",
+        line: "",
+    },
+];
+
+/// What is refused, with its line.
+const REFUSALS: &[Row] = &[
+    Row {
+        name: "no word",
+        words: &["tallrun"],
+        files: &[],
+        status: Status::Usage,
+        text: "",
+        line: USAGE,
+    },
+    Row {
+        name: "a word too many",
+        words: &["tallrun", "s.m", "t.m"],
+        files: &[],
+        status: Status::Usage,
+        text: "",
+        line: USAGE,
+    },
+    Row {
+        name: "no script",
+        words: &["tallrun", "none.m"],
+        files: &[],
+        status: Status::Fault,
+        text: "",
+        line: "tallrun: no file none.m\n",
+    },
+    Row {
+        name: "no data",
+        words: GO,
+        files: &[("s.m", SCRIPT)],
+        status: Status::Fault,
+        text: "",
+        line: "tallrun: line 1: no file a.csv\n",
+    },
+];
+
+/// Data that doesn't run today.
+const OTHER_DATA: &[&str] = &[
+    "",
+    "x,y\n1,2\n",
+    "y\n1\n",
+    "x\n40000\n",
+    "x\n-32769\n",
+    "x\n+1\n",
+    "x\n\"\"\n",
+    "x\n1,2\n",
+    "x\n000001\n",
+    "x\n 1\n",
+    "x\n1\n2.5\n",
+];
+
+#[test]
+fn scripts_print_their_sums(rt: HostRuntime) -> Result<(), Fail> {
+    for row in SUMS {
+        check_row(&rt, rt.alloc(), row)?;
+    }
+    Ok(())
+}
+
+#[test]
+fn refusals_give_their_lines(rt: HostRuntime) -> Result<(), Fail> {
+    for row in REFUSALS {
+        check_row(&rt, rt.alloc(), row)?;
+    }
+    Ok(())
+}
+
+/// Runs the script over this data, and answers the status and the line on `err`.
+fn over_data<R: Threads + Sync + Abort>(
+    rt: &R,
+    alloc: Global,
+    script: &str,
+    data: &str,
+    out: &mut MemSink,
+    err: &mut MemSink,
+) -> Result<Status, Fail> {
+    let mut shelf = shelf_of(rt, alloc, &[("s.m", script), ("a.csv", data)])?;
+    ending(rt, alloc, GO, &mut shelf, out, err)
+}
+
+#[test]
+fn other_data_is_not_built(rt: HostRuntime) -> Result<(), Fail> {
+    for data in OTHER_DATA {
+        let mut out = MemSink::new(rt.alloc());
+        let mut err = MemSink::new(rt.alloc());
+        let status = over_data(&rt, rt.alloc(), SCRIPT, data, &mut out, &mut err)?;
+        assert_eq!(rt; status, Status::Fault, "{data:?}");
+        assert_eq!(rt; err.bytes(), NOT_BUILT.as_bytes(), "{data:?}");
+        assert_eq!(rt; out.bytes(), b"".as_slice());
+    }
+    Ok(())
+}
+
+#[test]
+fn another_script_is_not_built(rt: HostRuntime) -> Result<(), Fail> {
+    let longer = format!(in rt.alloc(); "{SCRIPT}s\n")?;
+    let shorter = &SCRIPT[..SCRIPT.len() - 1];
+    for (script, want) in [
+        (SCRIPT, Status::Done),
+        (shorter, Status::Done),
+        (longer.as_str(), Status::Fault),
+        ("", Status::Fault),
+        ("\n", Status::Fault),
+    ] {
+        let mut out = MemSink::new(rt.alloc());
+        let mut err = MemSink::new(rt.alloc());
+        let status = over_data(&rt, rt.alloc(), script, "x\n1\n", &mut out, &mut err)?;
+        assert_eq!(rt; status, want, "{script:?}");
+    }
+    Ok(())
+}
+
+/// Where a call of the outside is made to fail.
+#[derive(Clone, Copy)]
+enum Failing {
+    Open(u64),
+    Read(u64),
+    WriteOut,
+    WriteErr,
+}
+
+/// One call fails: what is shown of it.
+#[test]
+fn a_failing_call_has_its_line(rt: HostRuntime) -> Result<(), Fail> {
+    let cannot_read = "tallrun: cannot read a.csv\n";
+    let cannot_read_script = "tallrun: cannot read s.m\n";
+    for (failing, data, want, text, line) in [
+        (
+            Failing::Open(1),
+            "x\n1\n",
+            Status::Read,
+            "",
+            cannot_read_script,
+        ),
+        (
+            Failing::Read(1),
+            "x\n1\n",
+            Status::Read,
+            "",
+            cannot_read_script,
+        ),
+        (Failing::Open(2), "x\n1\n", Status::Read, "", cannot_read),
+        (Failing::Read(3), "x\n1\n", Status::Read, "", cannot_read),
+        (
+            Failing::WriteOut,
+            "x\n1\n",
+            Status::Write,
+            "",
+            "tallrun: cannot write\n",
+        ),
+        (Failing::WriteErr, "y\n1\n", Status::Write, "", ""),
+    ] {
+        let mut shelf = shelf_of(&rt, rt.alloc(), &[("s.m", SCRIPT), ("a.csv", data)])?;
+        let mut out = MemSink::new(rt.alloc());
+        let mut err = MemSink::new(rt.alloc());
+        match failing {
+            Failing::Open(call) => shelf.fail_open(call)?,
+            Failing::Read(call) => shelf.fail_read(call)?,
+            Failing::WriteOut => out.fail_at(1)?,
+            Failing::WriteErr => err.fail_at(1)?,
+        }
+        let status = ending(&rt, rt.alloc(), GO, &mut shelf, &mut out, &mut err)?;
+        assert_eq!(rt; status, want, "{line}");
+        assert_eq!(rt; out.bytes(), text.as_bytes(), "{line}");
+        assert_eq!(rt; err.bytes(), line.as_bytes(), "{line}");
+    }
+    Ok(())
+}

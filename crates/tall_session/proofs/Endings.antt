@@ -1,0 +1,113 @@
+-- From what the files come to and what was shown, to the clauses of the run.
+use Rattle.std.proofs.Common.{ℕ, ◌≡◌, ◌≢◌, ◌⊎◌, List, [], inl, inr, subst, refl, rules, take}
+use Rattle.std.specs.Io.KnownBytes.{Appends}
+use Rattle.tall_outside.specs.Count.{Rose}
+use Rattle.tall_session.specs.Answer.{Answer, IsSettled, Shows, ShowsAll, Written, shown}
+use Rattle.std.specs.Prelude.{Option, Some, None, IfSome}
+use Rattle.tall_outside.specs.Shelf.{Files}
+use Rattle.tall_session.specs.Evaluation.{Agrees, Counts, IsExplained, WithinLimit, answer, outcome_of, script_name}
+use Rattle.tall_session.specs.declared.outcome.Status.{Status}
+use Rattle.tall_session.specs.declared.outcome.Status.TheVariants as status
+use Rattle.tall_session.specs.declared.outcome.Outcome.{Outcome}
+use Rattle.tall_session.specs.declared.outcome.Outcome.TheVariants.{Sum, Usage, NoScript, NoData, NotBuilt, CannotReadScript, CannotReadData, DataTooLarge, Memory}
+
+all_shown : (answer : Answer) (how : Status) (before after : Written) → Shows answer how before after → IsSettled how → ShowsAll answer how before after
+all_shown answer how before after shows settled = elim shows.ending [
+  | inl write ↦ absurd (subst IsSettled write settled)
+  | inr (inl memory) ↦ absurd (subst IsSettled memory settled)
+  | inr (inr all) ↦ all
+]
+
+-- what was shown with a settled status is what is due
+pub settles : (due outcome : Outcome) (name : List ℕ) (how : Status) (before after : Written) → Agrees outcome due
+    → Shows (shown name outcome) how before after → IsSettled how → ShowsAll (shown name due) how before after
+settles due outcome name how before after agrees shows settled = by_outcome outcome agrees (all_shown (shown name outcome) how before after shows settled)
+  where
+    by_outcome : (o : Outcome) → Agrees o due → ShowsAll (shown name o) how before after → ShowsAll (shown name due) how before after
+    by_outcome CannotReadScript a all = absurd (subst IsSettled all.0 settled)
+    by_outcome CannotReadData a all = absurd (subst IsSettled all.0 settled)
+    by_outcome DataTooLarge a all = absurd (subst IsSettled all.0 settled)
+    by_outcome Memory a all = absurd (subst IsSettled all.0 settled)
+    by_outcome (Sum n) a all = subst (λ o. ShowsAll (shown name o) how before after) a all
+    by_outcome Usage a all = subst (λ o. ShowsAll (shown name o) how before after) a all
+    by_outcome NoScript a all = subst (λ o. ShowsAll (shown name o) how before after) a all
+    by_outcome NoData a all = subst (λ o. ShowsAll (shown name o) how before after) a all
+    by_outcome NotBuilt a all = subst (λ o. ShowsAll (shown name o) how before after) a all
+
+-- where nothing failed and no file is too long, what is due was shown, unless memory was wanting
+pub completes : (due outcome : Outcome) (name : List ℕ) (how : Status) (before after : Written) (counts counts' : Counts) → Agrees outcome due
+    → outcome ≢ DataTooLarge → IsExplained outcome counts counts' → (Rose counts.faults counts'.faults → ⊥) → (how ≡ status.Write → ⊥)
+    → Shows (shown name outcome) how before after → (how ≡ status.Memory) ⊎ ShowsAll (shown name due) how before after
+completes due outcome name how before after counts counts' agrees fits explained calm written shows =
+    elim shows.ending [
+      | inl write ↦ absurd (written write)
+      | inr (inl memory) ↦ inl memory
+      | inr (inr all) ↦ by_outcome outcome agrees fits explained all
+    ]
+  where
+    by_outcome : (o : Outcome) → Agrees o due → o ≢ DataTooLarge → IsExplained o counts counts' → ShowsAll (shown name o) how before after
+        → (how ≡ status.Memory) ⊎ ShowsAll (shown name due) how before after
+    by_outcome CannotReadScript a f x all = absurd (calm x)
+    by_outcome CannotReadData a f x all = absurd (calm x)
+    by_outcome DataTooLarge a f x all = absurd (f refl)
+    by_outcome Memory a f x all = inl all.0
+    by_outcome (Sum n) a f x all = inr (subst (λ o. ShowsAll (shown name o) how before after) a all)
+    by_outcome Usage a f x all = inr (subst (λ o. ShowsAll (shown name o) how before after) a all)
+    by_outcome NoScript a f x all = inr (subst (λ o. ShowsAll (shown name o) how before after) a all)
+    by_outcome NoData a f x all = inr (subst (λ o. ShowsAll (shown name o) how before after) a all)
+    by_outcome NotBuilt a f x all = inr (subst (λ o. ShowsAll (shown name o) how before after) a all)
+
+take_none : (n : ℕ) → take {A = ℕ} n [] ≡ []
+take_none n = search rules
+
+-- what was printed is a front of what is due
+pub is_front : (due outcome : Outcome) (name : List ℕ) (how : Status) (before after : Written) → Agrees outcome due
+    → Shows (shown name outcome) how before after → (n : ℕ) × Appends before.text after.text (take n (shown name due).text)
+is_front due outcome name how before after agrees shows = by_outcome outcome agrees shows.text
+  where
+    none : (n : ℕ) → Appends before.text after.text (take n []) → (m : ℕ) × Appends before.text after.text (take m (shown name due).text)
+    none n p = (0, subst (Appends before.text after.text) (take_none n) p)
+
+    by_outcome : (o : Outcome) → Agrees o due → ((n : ℕ) × Appends before.text after.text (take n (shown name o).text))
+        → (n : ℕ) × Appends before.text after.text (take n (shown name due).text)
+    by_outcome CannotReadScript a p = none p.0 p.1
+    by_outcome CannotReadData a p = none p.0 p.1
+    by_outcome DataTooLarge a p = none p.0 p.1
+    by_outcome Memory a p = none p.0 p.1
+    by_outcome (Sum n) a p = subst (λ o. (n : ℕ) × Appends before.text after.text (take n (shown name o).text)) a p
+    by_outcome Usage a p = none p.0 p.1
+    by_outcome NoScript a p = none p.0 p.1
+    by_outcome NoData a p = none p.0 p.1
+    by_outcome NotBuilt a p = none p.0 p.1
+
+-- the clauses of the run, over a shelf that may tell what it holds
+pub run_completes : {P Q : Type 0} (held : Option Files) (words : List (List ℕ)) (outcome : Outcome) (name : List ℕ) (how : Status)
+    (before after : Written) (counts counts' : Counts) → name ≡ script_name words
+    → IfSome held (λ files. WithinLimit files → Agrees outcome (outcome_of files words))
+    → IfSome held (λ files. WithinLimit files → outcome ≢ DataTooLarge) → IsExplained outcome counts counts'
+    → (how ≡ status.Write → P ⊎ Q) → Shows (shown name outcome) how before after
+    → IfSome held (λ files. WithinLimit files → (Rose counts.faults counts'.faults → ⊥) → (P → ⊥) → (Q → ⊥)
+    → (how ≡ status.Memory) ⊎ ShowsAll (answer files words) how before after)
+run_completes None words outcome name how before after counts counts' named told fits explained written shows = tt
+run_completes (Some files) words outcome name how before after counts counts' named told fits explained written shows =
+    λ within calm out err. completes (outcome_of files words) outcome (script_name words) how before after counts counts' (told within) (fits within)
+    explained calm (λ write. elim (written write) [ inl p ↦ out p | inr q ↦ err q ])
+    (subst (λ n. Shows (shown n outcome) how before after) named shows)
+
+pub run_settles : (held : Option Files) (words : List (List ℕ)) (outcome : Outcome) (name : List ℕ) (how : Status) (before after : Written)
+    → name ≡ script_name words → IfSome held (λ files. WithinLimit files → Agrees outcome (outcome_of files words))
+    → Shows (shown name outcome) how before after
+    → IfSome held (λ files. WithinLimit files → IsSettled how → ShowsAll (answer files words) how before after)
+run_settles None words outcome name how before after named told shows = tt
+run_settles (Some files) words outcome name how before after named told shows =
+    λ within settled. settles (outcome_of files words) outcome (script_name words) how before after (told within)
+    (subst (λ n. Shows (shown n outcome) how before after) named shows) settled
+
+pub run_fronts : (held : Option Files) (words : List (List ℕ)) (outcome : Outcome) (name : List ℕ) (how : Status) (before after : Written)
+    → name ≡ script_name words → IfSome held (λ files. WithinLimit files → Agrees outcome (outcome_of files words))
+    → Shows (shown name outcome) how before after
+    → IfSome held (λ files. WithinLimit files → (n : ℕ) × Appends before.text after.text (take n (answer files words).text))
+run_fronts None words outcome name how before after named told shows = tt
+run_fronts (Some files) words outcome name how before after named told shows =
+    λ within. is_front (outcome_of files words) outcome (script_name words) how before after (told within)
+    (subst (λ n. Shows (shown n outcome) how before after) named shows)

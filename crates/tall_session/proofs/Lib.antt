@@ -1,0 +1,5 @@
+pub mod Writing
+pub mod Reading
+pub mod FirstScripts
+pub mod Blocks
+pub mod Endings

@@ -1,0 +1,76 @@
+-- What words over files come to: docs/LANGUAGE.md, "Commands".
+use Rattle.std.specs.Prelude.{List, ℕ, ℤ, Option, Some, None, [], ◌∷◌, ◌≤◌, ◌<◌, ◌^◌, ◌≡◌, length, if◌then◌else◌, IfSome, unwrap_or}
+use Rattle.tall_outside.specs.Shelf.{Files, file_in}
+use Rattle.tall_outside.specs.Count.{Rose}
+use Rattle.tall_cut.specs.Rows.{file_records}
+use Rattle.tall_session.specs.FirstScript.{is_first_script, data_name}
+use Rattle.tall_session.specs.Column.{native_sum}
+use Rattle.tall_session.specs.Answer.{Answer, shown}
+use Rattle.tall_session.specs.declared.outcome.Outcome.{Outcome}
+use Rattle.tall_session.specs.declared.outcome.Outcome.TheVariants.{Sum, Usage, NoScript, NoData, NotBuilt, CannotReadScript, CannotReadData, DataTooLarge, Memory}
+
+-- the script that the words name: the second of two words
+abbrev pub command : List (List ℕ) → Option (List ℕ)
+command [] = None
+command (program ∷ []) = None
+command (program ∷ script ∷ []) = Some script
+command (program ∷ script ∷ more ∷ words) = None
+
+-- of a sum, if there is one
+abbrev pub sum_outcome : Option ℤ → Outcome
+sum_outcome None = NotBuilt
+sum_outcome (Some n) = Sum n
+
+-- of the data file: the native sum of its records, whose fields a comma parts
+abbrev pub data_outcome : Option (List ℕ) → Outcome
+data_outcome None = NoData
+data_outcome (Some bytes) = sum_outcome (native_sum (file_records 44 bytes))
+
+-- of the script's file
+abbrev pub script_outcome : Files → Option (List ℕ) → Outcome
+script_outcome files None = NoScript
+script_outcome files (Some bytes) = if is_first_script bytes then data_outcome (file_in files data_name) else NotBuilt
+
+-- of the words
+abbrev pub command_outcome : Files → Option (List ℕ) → Outcome
+command_outcome files None = Usage
+command_outcome files (Some name) = script_outcome files (file_in files name)
+
+abbrev pub outcome_of : Files → List (List ℕ) → Outcome
+outcome_of files words = command_outcome files (command words)
+
+-- the script's name in the words, for the lines that have it
+abbrev pub script_name : List (List ℕ) → List ℕ
+script_name words = unwrap_or (command words) []
+
+-- the answer of these words over these files
+abbrev pub answer : Files → List (List ℕ) → Answer
+answer files words = shown (script_name words) (outcome_of files words)
+
+-- no file is longer than 2^50 bytes
+abbrev pub WithinLimit : Files → Type 0
+WithinLimit files = (name : List ℕ) → IfSome (file_in files name) (λ bytes. length bytes ≤ 2 ^ 50)
+
+-- an outcome is the due one, or one that a failure of the outside or want of memory gives in its stead
+abbrev pub Agrees : Outcome → Outcome → Type 0
+Agrees CannotReadScript due = Unit {0}
+Agrees CannotReadData due = Unit {0}
+Agrees DataTooLarge due = Unit {0}
+Agrees Memory due = Unit {0}
+Agrees outcome due = outcome ≡ due
+
+-- what a shelf counted, before and after a run: names that it missed and calls that failed, and the bytes that came of
+-- the file that was opened last
+pub record Counts : Type 0 where
+  pub misses : ℕ
+  pub faults : ℕ
+  pub came : ℕ
+
+-- the counts that an outcome blames have risen
+abbrev pub IsExplained : Outcome → Counts → Counts → Type 0
+IsExplained NoScript before after = Rose before.misses after.misses
+IsExplained NoData before after = Rose before.misses after.misses
+IsExplained CannotReadScript before after = Rose before.faults after.faults
+IsExplained CannotReadData before after = Rose before.faults after.faults
+IsExplained DataTooLarge before after = 2 ^ 50 < after.came
+IsExplained outcome before after = Unit {0}

@@ -1,0 +1,9 @@
+pub mod FirstScript
+pub mod Field
+pub mod FieldRows
+pub mod Status
+pub mod Answer
+pub mod Column
+pub mod ColumnRows
+pub mod Evaluation
+pub mod Counts

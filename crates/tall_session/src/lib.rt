@@ -1,0 +1,13 @@
+//! The evaluation of a script: its words, its files, what it prints and how it ends.
+#![tactic(auto)]
+
+mod column;
+mod evaluate;
+mod field;
+mod outcome;
+mod program;
+mod script;
+mod show;
+
+pub use outcome::{Outcome, Status};
+pub use program::run;

@@ -1,0 +1,68 @@
+//! The whole program, over a shelf of files and two sinks.
+
+ghost use Rattle.std.specs.Prelude.{◌≡◌, ◌≢◌, ◌<◌, ◌^◌, ◌⊎◌, ◌↔◌, ℕ, IfSome, IsNone, map, string_bytes, take};
+ghost use Rattle.std.specs.Io.KnownBytes.{Appends};
+ghost use Rattle.tall_outside.specs.Count.{Rose};
+ghost use Rattle.tall_session.specs.Answer.{IsSettled, Shows, ShowsAll, cannot_write, shown};
+ghost use Rattle.tall_session.specs.Counts.{shelf_counts};
+ghost use Rattle.tall_session.specs.Evaluation.{IsExplained, WithinLimit, answer, command, script_name};
+
+use crate::evaluate::evaluate;
+use crate::outcome::Status;
+use crate::show::show;
+use std::alloc::Global;
+use std::thread::Threads;
+use tall_outside::{Gate, Shelf, Sink};
+
+/// The script's name in the words, for the lines that have it.
+fn script_name(words: &[String]) -> &str
+    ensures { result.now ≡ script_name (map (λ word. string_bytes word) words.now) }
+{
+    match words {
+        [_, name] => name.as_str(),
+        _ => "",
+    }
+}
+
+/// Runs the command that the words name, over the files of a shelf: prints the text of its script on `out`, and a
+/// fault's line on `err` (docs/LANGUAGE.md, "Commands", "Printing" and "Fault lines").
+///
+/// `words` has the program's name first. `answer` says what evaluating the script over the whole files gives; the causes
+/// say what each other ending tells of the outside. What is added to `out` is a front of the answer's text, whatever
+/// happens.
+pub fn run<R: Threads + Sync, S: Shelf + Send, O: Sink, E: Sink, G: Gate + Sync>(
+    _rt: &R,
+    alloc: Global,
+    words: &[String],
+    _gate: &G,
+    shelf: &mut S,
+    out: &mut O,
+    err: &mut E,
+) -> Status
+    // The answer, where the shelf and the sinks tell, no file is too long and nothing failed.
+    ensures complete { IfSome (S.held shelf.old) (λ files. WithinLimit files
+        → (Rose (S.faults shelf.old) (S.faults shelf.new) → ⊥) → (Rose (O.faults out.old) (O.faults out.new) → ⊥) → (Rose (E.faults err.old) (E.faults err.new) → ⊥)
+        → (result ≡ Status.Memory) ⊎ ShowsAll (answer files (map (λ word. string_bytes word) words.now)) result
+        (record { text = O.written out.old; line = E.written err.old }) (record { text = O.written out.new; line = E.written err.new })) }
+
+    // Done, Fault and Usage come with the whole answer, even where a call failed on the way.
+    ensures settled { IfSome (S.held shelf.old) (λ files. WithinLimit files → IsSettled result
+        → ShowsAll (answer files (map (λ word. string_bytes word) words.now)) result
+        (record { text = O.written out.old; line = E.written err.old }) (record { text = O.written out.new; line = E.written err.new })) }
+    ensures front { IfSome (S.held shelf.old) (λ files. WithinLimit files
+        → (n : ℕ) × Appends (O.written out.old) (O.written out.new) (take n (answer files (map (λ word. string_bytes word) words.now)).text)) }
+
+    // What is shown is some outcome's, whether or not the shelf tells, and the outside's counts explain it.
+    ensures cause { (outcome : _)
+        × Shows (shown (script_name (map (λ word. string_bytes word) words.now)) outcome) result
+        (record { text = O.written out.old; line = E.written err.old }) (record { text = O.written out.new; line = E.written err.new })
+        × IsExplained outcome (shelf_counts S.Shelf shelf.old) (shelf_counts S.Shelf shelf.new) }
+    ensures read { (result ≡ Status.Read) → Rose (S.faults shelf.old) (S.faults shelf.new) ⊎ (2 ^ 50 < S.came shelf.new) }
+    ensures write { (result ≡ Status.Write) → Rose (O.faults out.old) (O.faults out.new) ⊎ Rose (E.faults err.old) (E.faults err.new) }
+    ensures told { (result ≡ Status.Write) → Rose (E.faults err.old) (E.faults err.new) ⊎ Appends (E.written err.old) (E.written err.new) cannot_write }
+    ensures usage { (result ≡ Status.Usage) → IsNone (command (map (λ word. string_bytes word) words.now)) }
+    ensures refused { IsNone (command (map (λ word. string_bytes word) words.now)) → (result ≡ Status.Usage) ⊎ (result ≡ Status.Write) ⊎ (result ≡ Status.Memory) }
+{
+    let outcome = evaluate(alloc, words, shelf);
+    show(alloc, outcome, script_name(words), out, err)
+}
