@@ -7,3 +7,4 @@ pub mod Column
 pub mod ColumnRows
 pub mod Evaluation
 pub mod Counts
+pub mod AnswerRows

@@ -1,0 +1,54 @@
+-- Worked answers, from the bytes of the files: sums as outcomes, and refusals with their lines.
+use Rattle.std.specs.Prelude.{List, ℕ, ◌≡◌, [], ◌∷◌, ◌++◌, refl, codes, pos, negsuc}
+use Rattle.csv.proofs.OnLiterals.{csv_on_literals}
+use Rattle.tall_outside.specs.Shelf.{Files}
+use Rattle.tall_session.specs.FirstScript.{first_script}
+use Rattle.tall_session.specs.Answer.{refusal}
+use Rattle.tall_session.specs.Evaluation.{answer, outcome_of}
+use Rattle.tall_session.specs.declared.outcome.Outcome.TheVariants.{Sum}
+use Rattle.tall_session.specs.declared.outcome.Status.TheVariants as status
+
+-- the script under the name s.m, and these bytes under a.csv
+abbrev pub over : List ℕ → Files
+over bytes = (codes "s.m", first_script) ∷ (codes "a.csv", bytes) ∷ []
+
+abbrev pub go : List (List ℕ)
+go = codes "tallrun" ∷ codes "s.m" ∷ []
+
+-- the second row saturates, and the third goes on from there
+pub row_saturates : outcome_of (over (codes "x\n30000\n5000\n-1000\n")) go ≡ Sum (pos 31767)
+unfolding csv_on_literals
+row_saturates = refl
+
+pub row_below_zero : outcome_of (over (codes "x\n30000\n30000\n-32768\n")) go ≡ Sum (negsuc 0)
+unfolding csv_on_literals
+row_below_zero = refl
+
+-- a byte order mark, other line ends, a quoted header, an empty line, and no line end at the end
+pub row_other_ends : outcome_of (over (239 ∷ 187 ∷ 191 ∷ codes "\"x\"\r\n1\r\n\r\n-3")) go ≡ Sum (negsuc 1)
+unfolding csv_on_literals
+row_other_ends = refl
+
+pub row_no_rows : outcome_of (over (codes "x\n")) go ≡ Sum (pos 0)
+unfolding csv_on_literals
+row_no_rows = refl
+
+pub row_no_record : answer (over []) go ≡ refusal status.Fault (codes "not built")
+unfolding csv_on_literals
+row_no_record = refl
+
+pub row_two_fields : answer (over (codes "x\n1,2\n")) go ≡ refusal status.Fault (codes "not built")
+unfolding csv_on_literals
+row_two_fields = refl
+
+pub row_other_script : answer ((codes "s.m", codes "s") ∷ []) go ≡ refusal status.Fault (codes "not built")
+row_other_script = refl
+
+pub row_no_data : answer ((codes "s.m", first_script) ∷ []) go ≡ refusal status.Fault (codes "line 1: no file a.csv")
+row_no_data = refl
+
+pub row_no_script : answer [] (codes "tallrun" ∷ codes "none.m" ∷ []) ≡ refusal status.Fault (codes "no file none.m")
+row_no_script = refl
+
+pub row_no_word : answer [] (codes "tallrun" ∷ []) ≡ refusal status.Usage (codes "usage: tallrun [--workers N] SCRIPT")
+row_no_word = refl
