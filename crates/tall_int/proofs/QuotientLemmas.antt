@@ -1,5 +1,5 @@
 -- Remainders by the floor, from the remainder toward zero; saturated products; numbers of a class.
-use Rattle.std.proofs.Common.{◌≡◌, ◌≢◌, ℕ, zero, suc, ◌+◌, ◌-◌, ◌*◌, ◌/◌, ◌%◌, ◌^◌, ◌<◌, ◌≤◌, ℤ, pos, negsuc, ◌+ℤ◌, ◌-ℤ◌, ◌*ℤ◌, ◌≤ℤ◌, Bool, true, false, refl, ap, sym, subst, ◌∙◌, arith, rules}
+use Rattle.std.proofs.Common.{◌≡◌, ◌≢◌, ℕ, zero, suc, ◌^◌, ◌≤◌, ℤ, pos, negsuc, ◌+ℤ◌, ◌-ℤ◌, ◌*ℤ◌, ◌≤ℤ◌, true, false, refl, ap, sym, subst, arith, rules}
 use Rattle.std.proofs.lemmas.Int.{ints, clamps}
 use Rattle.std.specs.Prelude.{int_rem, unsigned_abs}
 use Rattle.std.specs.Int.{is_negative, saturate_signed}
@@ -11,7 +11,7 @@ use Rattle.tall_int.specs.Quotients.{differ, quotient, IsFloor}
 use Rattle.tall_int.specs.Arithmetic.{divided, remainder}
 use Rattle.tall_int.specs.declared.quotients.Rounding.{Rounding}
 use Rattle.tall_int.specs.declared.quotients.Rounding.TheVariants.{Floor}
-use Rattle.tall_int.proofs.Ranges.{IsIn, nearest_in}
+use Rattle.tall_int.proofs.Ranges.{IsIn}
 
 pub turned_rest : (p q : ℤ) → q ≢ pos 0 → int_rem p q ≢ pos 0 → differ (is_negative (int_rem p q)) (is_negative q) ≡ true
     → int_rem p q +ℤ q ≡ remainder p q

@@ -1,6 +1,6 @@
 -- Doubles of the language: NaN, or a whole number of magnitude at most 2^53. None is NaN. A result that is no such
 -- number is refused: Inexact above 2^53 or over zero, NotWhole where a quotient isn't whole.
-use Rattle.std.specs.Prelude.{ℤ, ℕ, pos, neg_ℤ, ◌+ℤ◌, ◌-ℤ◌, ◌*ℤ◌, ◌%◌, ◌^◌, ◌≤◌, ◌==◌, nat_le, unsigned_abs, int_div, if◌then◌else◌}
+use Rattle.std.specs.Prelude.{ℤ, pos, neg_ℤ, ◌+ℤ◌, ◌-ℤ◌, ◌*ℤ◌, ◌%◌, ◌^◌, ◌==◌, nat_le, unsigned_abs, int_div, if◌then◌else◌}
 use Rattle.std.specs.Prelude.{Option, None, Some, Result, Ok, Err}
 use Rattle.tall_int.specs.Arithmetic.{remainder}
 use Rattle.tall_int.specs.declared.faults.WholeFault.{WholeFault}

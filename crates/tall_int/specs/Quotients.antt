@@ -41,3 +41,8 @@ pub record IsNearest (p q r : ℤ) : Type 0 where
 pub record IsFloor (p q r : ℤ) : Type 0 where
   pub above : pos 0 <ℤ q → (pos 0 ≤ℤ (p -ℤ q *ℤ r)) × ((p -ℤ q *ℤ r) <ℤ q)
   pub below : q <ℤ pos 0 → (q <ℤ (p -ℤ q *ℤ r)) × ((p -ℤ q *ℤ r) ≤ℤ pos 0)
+
+-- r is p / q cut toward 0
+pub record IsCut (p q r : ℤ) : Type 0 where
+  pub inward : unsigned_abs (q *ℤ r) ≤ unsigned_abs p
+  pub rest : unsigned_abs (p -ℤ q *ℤ r) < unsigned_abs q

@@ -1,6 +1,5 @@
 -- Worked values of the definitions, each by computing.
-use Rattle.std.specs.Prelude.{◌≡◌, ℤ, ℕ, pos, negsuc, ◌^◌, ◌-◌, List, [], ◌∷◌, refl, Option, None, Some, Result, Ok, Err}
-use Rattle.tall_int.specs.Numbers.{nearest}
+use Rattle.std.specs.Prelude.{◌≡◌, pos, negsuc, ◌^◌, [], ◌∷◌, refl, None, Some, Ok, Err}
 use Rattle.tall_int.specs.Quotients.{quotient}
 use Rattle.tall_int.specs.Arithmetic.{divided, operation, remainder}
 use Rattle.tall_int.specs.Twos.{twos_and, twos_or, twos_xor}
@@ -8,7 +7,6 @@ use Rattle.tall_int.specs.Doubles.{whole_add, whole_div, whole_modulo}
 use Rattle.tall_int.specs.Sums.{clamped_sum}
 use Rattle.tall_int.specs.declared.quotients.Rounding.TheVariants.{Fix, Floor, Ceil, Round}
 use Rattle.tall_int.specs.declared.operators.Arith.TheVariants.{Add, Div, Idivide, Modulo}
-use Rattle.tall_int.specs.declared.faults.WholeFault.{WholeFault}
 use Rattle.tall_int.specs.declared.faults.WholeFault.TheVariants.{Inexact, NotWhole}
 
 -- int8(-128) ./ int8(-1) is 127

@@ -1,6 +1,6 @@
 //! The shelf and the sink over the host's own files and streams: the trusted edge of the program.
 
-ghost use Rattle.std.specs.Prelude.{◌≡◌, Some, None};
+ghost use Rattle.std.specs.Prelude.{◌≡◌, [], Some, None};
 ghost use Rattle.tall_outside.specs.Host.{known_rest};
 
 use crate::shelf::{Failed, Opening, Shelf};
@@ -23,7 +23,12 @@ pub struct HostShelf<R: Files> {
 
 impl<R: Files> HostShelf<R> {
     /// A shelf of which no file is open.
-    pub fn new(rt: R) -> HostShelf<R> {
+    pub fn new(rt: R) -> HostShelf<R>
+        ensures left { ⟦<HostShelf<R> as Shelf>⟧.left result ≡ Some [] }
+        ensures misses { ⟦<HostShelf<R> as Shelf>⟧.misses result ≡ 0 }
+        ensures faults { ⟦<HostShelf<R> as Shelf>⟧.faults result ≡ 0 }
+        ensures came { ⟦<HostShelf<R> as Shelf>⟧.came result ≡ 0 }
+    {
         HostShelf {
             rt,
             file: None,
@@ -93,7 +98,9 @@ pub struct HostSink<W> {
 
 impl<W: Write> HostSink<W> {
     /// A sink over this writer.
-    pub fn new(writer: W) -> HostSink<W> {
+    pub fn new(writer: W) -> HostSink<W>
+        ensures { ⟦<HostSink<W> as Sink>⟧.faults result ≡ 0 }
+    {
         HostSink { writer, faults: 0 }
     }
 }
@@ -121,27 +128,20 @@ impl<W: Write> Sink for HostSink<W> {
 #[cfg(test)]
 mod tests {
     use super::*;
+    use crate::tests::answers;
     use std::io;
     use std::test::Fail;
 
     #[test]
     fn reads_the_files_of_the_folder(rt: HostRuntime) -> Result<(), Fail> {
-        fs::write(&rt, "a.csv", "x\n1\n2\n")?;
+        fs::write(&rt, "a.csv", "x,1,2,")?;
         let mut shelf = HostShelf::new(rt.clone()?);
-        let mut buf = [0u8; 4];
-        assert_eq!(rt; shelf.read(&mut buf), Ok(0));
-        assert_eq!(rt; shelf.open("a.csv"), Opening::Opened);
-        assert_eq!(rt; shelf.read(&mut buf), Ok(4));
-        assert_eq!(rt; buf.as_slice(), b"x\n1\n".as_slice());
-        assert_eq!(rt; shelf.read(&mut buf), Ok(2));
-        assert_eq!(rt; shelf.read(&mut buf), Ok(0));
-        assert_eq!(rt; (shelf.came, shelf.misses, shelf.faults), (6, 0, 0));
-        assert_eq!(rt; shelf.open("none.csv"), Opening::NoSuch);
-        assert_eq!(rt; shelf.read(&mut buf), Ok(0));
-        assert_eq!(rt; (shelf.came, shelf.misses, shelf.faults), (0, 1, 0));
-        assert_eq!(rt; shelf.open("a.csv/inside"), Opening::Failed);
-        assert_eq!(rt; shelf.open("."), Opening::Opened);
-        assert_eq!(rt; shelf.read(&mut buf), Err(Failed));
+        let calls = ["", "a.csv", "", "", "", "none.csv", "", "a.csv/b", ".", ""];
+        let text = answers(rt.alloc(), &mut shelf, &calls)?;
+        assert_eq!(rt;
+            text.as_str(),
+            r#""" Opened "x,1," "2," "" NoSuch "" Failed Opened Failed "#
+        );
         assert_eq!(rt; (shelf.came, shelf.misses, shelf.faults), (0, 1, 2));
         Ok(())
     }
@@ -166,18 +166,19 @@ mod tests {
     }
 
     #[test]
-    fn writes_to_a_file_and_counts_refusals(rt: HostRuntime) -> Result<(), Fail> {
+    fn writes_to_a_file(rt: HostRuntime) -> Result<(), Fail> {
         let mut sink = HostSink::new(fs::create(&rt, "out.txt")?);
-        assert_eq!(rt; sink.write(b"s = 1\n"), Ok(6));
-        assert_eq!(rt; sink.write(b""), Ok(0));
+        assert_eq!(rt; [sink.write(b"s = 1\n"), sink.write(b"")], [Ok(6), Ok(0)]);
         assert_eq!(rt; sink.faults, 0);
         assert_eq!(rt; fs::read_to_string(&rt, "out.txt")?.as_str(), "s = 1\n");
-
-        let mut closing = HostSink::new(Closing(0));
-        assert_eq!(rt; closing.write(b"ab"), Ok(1));
-        assert_eq!(rt; closing.write(b"b"), Ok(0));
-        assert_eq!(rt; closing.write(b"b"), Err(WriteFault::Failed));
-        assert_eq!(rt; closing.faults, 2);
         Ok(())
+    }
+
+    #[test]
+    fn counts_refusals_of_the_writer(rt: HostRuntime) {
+        let mut sink = HostSink::new(Closing(0));
+        let answers = [sink.write(b"ab"), sink.write(b"b"), sink.write(b"b")];
+        assert_eq!(rt; answers, [Ok(1), Ok(0), Err(WriteFault::Failed)]);
+        assert_eq!(rt; sink.faults, 2);
     }
 }

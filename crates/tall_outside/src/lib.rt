@@ -17,3 +17,6 @@ pub use mem_shelf::{MemShelf, has_distinct_names};
 pub use mem_sink::MemSink;
 pub use shelf::{Failed, Opening, Shelf};
 pub use sink::{Sink, WriteFault};
+
+#[cfg(test)]
+mod tests;

@@ -87,10 +87,12 @@ mod tests {
     fn takes_all_but_the_planned_pieces(rt: HostRuntime) -> Result<(), Fail> {
         let mut sink = MemSink::new(rt.alloc());
         sink.fail_at(2)?;
-        assert_eq!(rt; sink.write(b"one "), Ok(4));
-        assert_eq!(rt; sink.write(b"two "), Err(WriteFault::Failed));
-        assert_eq!(rt; sink.write(b"three"), Ok(5));
-        assert_eq!(rt; sink.write(b""), Ok(0));
+        let answers = [
+            sink.write(b"one "),
+            sink.write(b"two "),
+            sink.write(b"three"),
+        ];
+        assert_eq!(rt; answers, [Ok(4), Err(WriteFault::Failed), Ok(5)]);
         assert_eq!(rt; sink.bytes(), b"one three".as_slice());
         assert_eq!(rt; sink.faults, 1);
         Ok(())

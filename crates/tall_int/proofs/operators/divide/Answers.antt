@@ -1,4 +1,4 @@
-use Rattle.std.proofs.Common.{ap, ◌∙◌, ◌≡◌, ◌≢◌, sym, pos}
+use Rattle.std.proofs.Common.{ap, ◌∙◌, ◌≢◌, sym, pos}
 use Rattle.std.proofs.lemmas.Int.{to_z-of_z}
 use mir.Val.{SFits, of_z}
 use mir.Syntax.{w128}

@@ -1,11 +1,9 @@
-use Rattle.std.proofs.Common.{rules, arith, ap, ◌∙◌, sym, ◌≡◌, ◌≢◌, ◌+ℤ◌, pos, true, false, zero}
-use Rattle.std.specs.Prelude.{int_rem, unsigned_abs}
+use Rattle.std.proofs.Common.{arith, ap, ◌∙◌, sym, ◌≢◌, ◌+ℤ◌, pos}
+use Rattle.std.specs.Prelude.{int_rem}
 use Rattle.std.specs.Int.Signed.{mag_rem}
-use Rattle.std.specs.Int.{is_negative}
-use Rattle.std.proofs.lemmas.Int.{ints, to_z-of_z}
+use Rattle.std.proofs.lemmas.Int.{to_z-of_z}
 use mir.Val.{SFits, of_z}
 use mir.Syntax.{w128}
-use Rattle.tall_int.specs.Quotients.{differ}
 use Rattle.tall_int.proofs.QuotientLemmas.{turned_rest, kept_rest, zero_rest, zero_from_bits, sum_fits}
 use Rattle.tall_int.proofs.quotients.floor_remainder.Goals as goal
 use Rattle.tall_int.proofs.quotients.floor_remainder.Goals.{else-rest-ne0-via-then-rest-ne0+else-only_one, else-rest-ne0-via-else-rest-ne0}
