@@ -1,8 +1,9 @@
 //! Reading the records of a file in blocks.
 
-ghost use Rattle.std.specs.Prelude.{◌≡◌, ◌<◌};
-ghost use Rattle.tall_cut.specs.declared.gather.Progress.TheVariants.{Reading};
+ghost use Rattle.std.specs.Prelude.{◌≡◌, ◌<◌, true};
+ghost use Rattle.tall_cut.specs.declared.gather.Progress.TheVariants.{Ended, Reading};
 ghost use Rattle.tall_cut.specs.Rows.{IsCutting};
+ghost use Rattle.tall_cut.specs.Left.{is_at_end};
 
 use crate::feed::{Feed, Lent, OpenedFile};
 use crate::gather::{Progress, gather, reader_of};
@@ -11,7 +12,7 @@ use csv::{ByteRecord, Reader};
 use std::alloc::Global;
 use tall_outside::Shelf;
 
-/// How many records a block has.
+/// How many records a block has, after the property `ReadSize` of MathWorks' `tabularTextDatastore`.
 #[derive(Clone, Copy, PartialEq, Eq, Debug)]
 pub enum ReadSize {
     /// So many, at least one.
@@ -58,8 +59,9 @@ pub enum Cause {
 
 /// The records of a file, in blocks of consecutive ones.
 ///
-/// The records are those of `csv`, of any numbers of fields and with no field trimmed; a byte order
-/// mark at the front of the file is no part of them.
+/// The records are those of `csv`: after RFC 4180, but also ended by a CR or an LF alone, of any numbers
+/// of fields, with no field trimmed and no record for an empty line. A byte order mark at the front of the
+/// file is no part of them.
 #[derive(Drop)]
 pub struct Cutter<'s, S: Shelf, K: OpenedFile> {
     reader: Reader<Feed<'s, S, K>>,
@@ -70,6 +72,7 @@ pub struct Cutter<'s, S: Shelf, K: OpenedFile> {
     alloc: Global,
     ghost some: { 0 < rows },
     ghost ready: { progress ≡ Reading → IsCutting reader },
+    ghost whole: { progress ≡ Ended → is_at_end reader ≡ true },
 }
 
 impl<'s, S: Shelf, K: OpenedFile> Cutter<'s, S, K> {
@@ -78,6 +81,7 @@ impl<'s, S: Shelf, K: OpenedFile> Cutter<'s, S, K> {
     ghost use Rattle.tall_cut.specs.Asked.{Returns};
     ghost use Rattle.tall_cut.specs.Rows.{file_records};
     ghost use Rattle.tall_cut.specs.Left.{feed_left};
+    ghost use Rattle.tall_cut.specs.Feed.{counted};
     ghost use Rattle.tall_cut.specs.Cuts.{Cuts, IsEnded, IsStopped, block_rows, cutter_left, cutter_shelf, rows_of};
 
     /// A cutter of what the feed gives. It reads nothing yet.
@@ -109,6 +113,7 @@ impl<'s, S: Shelf, K: OpenedFile> Cutter<'s, S, K> {
         ensures ended { IsEnded self.old → result ≡ Next.End }
         ensures stopped { IsStopped self.old → result ≡ Next.Stopped }
         ensures rows { block_rows self.new ≡ block_rows self.old }
+        ensures whole { result ≡ Next.End → IfSome K.size (λ size. counted size ≤ K.limit) }
     {
         self.cut(1)
     }
@@ -121,18 +126,19 @@ impl<'s, S: Shelf, K: OpenedFile> Cutter<'s, S, K> {
         ensures ended { IsEnded self.old → result ≡ Next.End }
         ensures stopped { IsStopped self.old → result ≡ Next.Stopped }
         ensures rows { block_rows self.new ≡ block_rows self.old }
+        ensures whole { result ≡ Next.End → IfSome K.size (λ size. counted size ≤ K.limit) }
     {
         self.cut(self.rows)
     }
 
     // The next so many records.
-    #[tactic(auto, using(crate::proofs::Blocks::closed_start))]
     fn cut(&mut self, rows: u64) -> Next
         requires { 0 < rows }
         ensures cuts { Cuts rows result self.old self.new }
         ensures ended { IsEnded self.old → result ≡ Next.End }
         ensures stopped { IsStopped self.old → result ≡ Next.Stopped }
         ensures rows { block_rows self.new ≡ block_rows self.old }
+        ensures whole { result ≡ Next.End → IfSome K.size (λ size. counted size ≤ K.limit) }
     {
         match self.progress {
             Progress::Reading => {}

@@ -1,10 +1,10 @@
 //! A file of a shelf, opened as a reader of its bytes.
 
-ghost use Rattle.std.specs.Prelude.{◌≡◌, ◌≤◌, ◌<◌, ℕ, List, Option, Some, true, false};
+ghost use Rattle.std.specs.Prelude.{◌≡◌, ◌≤◌, ◌<◌, ◌^◌, ℕ, List, Option, Some, true, false};
 ghost use Rattle.std.specs.Borrow.{GName};
 ghost use Rattle.tall_outside.specs.Count.{Rose};
 ghost use Rattle.tall_outside.specs.Shelf.{Files};
-ghost use Rattle.tall_cut.specs.Feed.{Inside, Inside-prop, within_limit};
+ghost use Rattle.tall_cut.specs.Feed.{HasCome, HasCome-prop, Inside, Inside-prop, within_limit};
 
 use std::io;
 use std::io::Read;
@@ -88,6 +88,8 @@ pub struct Feed<'s, S: Shelf, K: OpenedFile> {
     pub(crate) came: u64,
     pub(crate) failed: bool,
     pub(crate) too_large: bool,
+    // The last read of the shelf gave no byte, so the file is at its end.
+    pub(crate) at_end: bool,
     pub(crate) opening: PhantomData<K>,
     ghost bound: { limit ≡ K.limit },
     ghost files: { S.held shelf.now ≡ K.held },
@@ -98,15 +100,27 @@ pub struct Feed<'s, S: Shelf, K: OpenedFile> {
     ghost rose: { failed ≡ true → Rose K.faults (S.faults shelf.now) },
     ghost calm: { failed ≡ false → S.faults shelf.now ≡ K.faults },
     ghost count: { came ≡ S.came shelf.now },
+    ghost small: { S.came shelf.now < 2 ^ 64 },
     ghost large: { too_large ≡ true → limit < S.came shelf.now },
     ghost fits: { too_large ≡ false → S.came shelf.now ≤ limit },
+    ghost ends: { at_end ≡ true → too_large ≡ false },
+    ghost come: { HasCome at_end K.size (S.came shelf.now) } by { HasCome-prop at_end K.size (S.came shelf.now) },
     ghost inside: { Inside K.size (S.came shelf.now) (S.left shelf.now) } by { Inside-prop K.size (S.came shelf.now) (S.left shelf.now) },
 }
 
 impl<'s, S: Shelf, K: OpenedFile> Read for Feed<'s, S, K> {
+    ghost use Rattle.std.specs.Prelude.{◌⊎◌, IsErr};
+    ghost use Rattle.std.specs.Io.{ReadsAtMost};
+    ghost use Rattle.std.specs.Io.KnownBytes.{ReadConsumes};
+    ghost use Rattle.tall_cut.specs.Left.{feed_left};
+
     ghost remaining = { λ s. within_limit s.limit (S.came s.shelf.now) (S.left s.shelf.now) };
 
-    fn read(&mut self, buf: &mut [u8]) -> io::Result<usize> {
+    fn read(&mut self, buf: &mut [u8]) -> io::Result<usize>
+        ensures bound { ReadsAtMost result buf.new }
+        ensures bytes { ReadConsumes (feed_left self.old) (feed_left self.new) result buf.new }
+        ensures why { IsErr result → (self.new.failed ≡ true) ⊎ (self.new.too_large ≡ true) }
+    {
         if self.failed || self.too_large {
             return Err(io::Error::from(io::ErrorKind::Other));
         }
@@ -118,8 +132,10 @@ impl<'s, S: Shelf, K: OpenedFile> Read for Feed<'s, S, K> {
                 self.came = self.came.saturating_add(count as u64);
                 if self.came > self.limit {
                     self.too_large = true;
+                    self.at_end = false;
                     return Err(io::Error::from(io::ErrorKind::FileTooLarge));
                 }
+                self.at_end = count == 0;
                 Ok(count)
             }
             Err(_) => {
@@ -145,6 +161,13 @@ impl<'s, S: Shelf, K: OpenedFile> Feed<'s, S, K> {
         ensures { result ≡ self.now.too_large }
     {
         self.too_large
+    }
+
+    // Whether the file came to its end: the last read gave no byte.
+    pub(crate) fn is_at_end(&self) -> bool
+        ensures { result ≡ self.now.at_end }
+    {
+        self.at_end
     }
 
     /// The shelf.

@@ -1,11 +1,11 @@
 // Reading records one after the other into a block.
 
-ghost use Rattle.std.specs.Prelude.{◌≡◌, [], option_map};
+ghost use Rattle.std.specs.Prelude.{◌≡◌, [], option_map, true};
 ghost use Rattle.csv.specs.Records.{fields_of};
 ghost use Rattle.csv.specs.Reading.{reader_source};
 ghost use Rattle.tall_cut.specs.Rows.{IsCutting, file_records};
 ghost use Rattle.tall_cut.specs.Blocks.{Closed};
-ghost use Rattle.tall_cut.specs.Left.{feed_left, reader_left};
+ghost use Rattle.tall_cut.specs.Left.{feed_left, is_at_end, reader_left};
 ghost use Rattle.tall_cut.specs.Gather.{Gathers, TakesRow};
 
 use crate::feed::{Feed, OpenedFile};
@@ -51,10 +51,18 @@ fn read_row<'s, S: Shelf, K: OpenedFile>(
     requires { IsCutting reader.old }
     ensures ready { result ≡ Progress.Reading → IsCutting reader.new }
     ensures takes { TakesRow result (reader_left reader.old) (fields_of row.new) (reader_left reader.new) }
+    ensures end { result ≡ Progress.Ended → is_at_end reader.new ≡ true }
 {
     match reader.read_byte_record(row) {
         Ok(true) => return Progress::Reading,
-        Ok(false) => return Progress::Ended,
+        // That no record was found is `csv`'s word; that the file is at its end is the feed's.
+        Ok(false) => {
+            return if reader.get_ref().is_at_end() {
+                Progress::Ended
+            } else {
+                Progress::Stopped
+            };
+        }
         Err(_) => return Progress::Stopped,
     }
 }
@@ -73,6 +81,7 @@ pub(crate) fn gather<'s, S: Shelf, K: OpenedFile>(
     requires closed { Closed ends.old.items fields.old }
     ensures gathers { Gathers result rows (reader_left reader.old) ends.new.items fields.new (reader_left reader.new) }
     ensures ready { result ≡ Progress.Reading → IsCutting reader.new }
+    ensures end { result ≡ Progress.Ended → is_at_end reader.new ≡ true }
 {
     for _taken in 0..rows {
         match read_row(reader, row) {

@@ -7,6 +7,8 @@ pub mod feed;
 mod gather;
 mod opening;
 mod records;
+#[cfg(test)]
+mod tests;
 
 pub use cutter::{Cause, Cutter, Next, ReadSize};
 pub use feed::{Feed, FeedFault, Lent, OpenedFile, Refused};

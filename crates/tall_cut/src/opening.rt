@@ -39,6 +39,7 @@ pub fn open_feed<'s, S: Shelf, K: OpenedFile>(
                 came: 0,
                 failed: false,
                 too_large: false,
+                at_end: false,
                 opening: PhantomData,
             });
         }

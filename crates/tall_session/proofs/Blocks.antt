@@ -108,3 +108,9 @@ pub agrees_sum : (left : Option (List Fields)) (n : ℤ) → IfSome left (λ rec
     → IfSome left (λ records. Agrees (Sum n) (sum_outcome (sum_from (pos 0) records)))
 agrees_sum None n p = tt
 agrees_sum (Some records) n p = rw p refl
+
+-- an outcome that may stand for any agrees with the sum
+pub agrees_any : (left : Option (List Fields)) (outcome : Outcome) (sum : List Fields → Option ℤ) → ((due : Outcome) → Agrees outcome due)
+    → IfSome left (λ records. Agrees outcome (sum_outcome (sum records)))
+agrees_any None outcome sum h = tt
+agrees_any (Some records) outcome sum h = h (sum_outcome (sum records))

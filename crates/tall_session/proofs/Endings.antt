@@ -1,11 +1,11 @@
 -- From what the files come to and what was shown, to the clauses of the run.
-use Rattle.std.proofs.Common.{ℕ, ◌≡◌, ◌≢◌, ◌⊎◌, List, [], inl, inr, subst, refl, rules, take}
+use Rattle.std.proofs.Common.{ℕ, ◌≡◌, ◌≢◌, ◌⊎◌, List, [], inl, inr, subst, sym, refl, rules, take}
 use Rattle.std.specs.Io.KnownBytes.{Appends}
 use Rattle.tall_outside.specs.Count.{Rose}
 use Rattle.tall_session.specs.Answer.{Answer, IsSettled, Shows, ShowsAll, Written, shown}
 use Rattle.std.specs.Prelude.{Option, Some, None, IfSome}
 use Rattle.tall_outside.specs.Shelf.{Files}
-use Rattle.tall_session.specs.Evaluation.{Agrees, Counts, IsExplained, WithinLimit, answer, outcome_of, script_name}
+use Rattle.tall_session.specs.Evaluation.{Agrees, Counts, IsExplained, Prints, WithinLimit, answer, outcome_of, script_name}
 use Rattle.tall_session.specs.declared.outcome.Status.{Status}
 use Rattle.tall_session.specs.declared.outcome.Status.TheVariants as status
 use Rattle.tall_session.specs.declared.outcome.Outcome.{Outcome}
@@ -61,24 +61,24 @@ take_none : (n : ℕ) → take {A = ℕ} n [] ≡ []
 take_none n = search rules
 
 -- what was printed is a front of what is due
-pub is_front : (due outcome : Outcome) (name : List ℕ) (how : Status) (before after : Written) → Agrees outcome due
+pub is_front : (due outcome : Outcome) (name : List ℕ) (how : Status) (before after : Written) → Prints outcome due
     → Shows (shown name outcome) how before after → (n : ℕ) × Appends before.text after.text (take n (shown name due).text)
-is_front due outcome name how before after agrees shows = by_outcome outcome agrees shows.text
+is_front due outcome name how before after prints shows = by_outcome outcome prints shows.text
   where
-    none : (n : ℕ) → Appends before.text after.text (take n []) → (m : ℕ) × Appends before.text after.text (take m (shown name due).text)
-    none n p = (0, subst (Appends before.text after.text) (take_none n) p)
+    none : ((n : ℕ) × Appends before.text after.text (take n [])) → (m : ℕ) × Appends before.text after.text (take m (shown name due).text)
+    none p = (0, subst (Appends before.text after.text) (take_none p.0) p.1)
 
-    by_outcome : (o : Outcome) → Agrees o due → ((n : ℕ) × Appends before.text after.text (take n (shown name o).text))
+    by_outcome : (o : Outcome) → Prints o due → ((n : ℕ) × Appends before.text after.text (take n (shown name o).text))
         → (n : ℕ) × Appends before.text after.text (take n (shown name due).text)
-    by_outcome CannotReadScript a p = none p.0 p.1
-    by_outcome CannotReadData a p = none p.0 p.1
-    by_outcome DataTooLarge a p = none p.0 p.1
-    by_outcome Memory a p = none p.0 p.1
-    by_outcome (Sum n) a p = subst (λ o. (n : ℕ) × Appends before.text after.text (take n (shown name o).text)) a p
-    by_outcome Usage a p = none p.0 p.1
-    by_outcome NoScript a p = none p.0 p.1
-    by_outcome NoData a p = none p.0 p.1
-    by_outcome NotBuilt a p = none p.0 p.1
+    by_outcome (Sum n) a p = subst (λ o. (n : ℕ) × Appends before.text after.text (take n (shown name o).text)) (sym a) p
+    by_outcome CannotReadScript a p = none p
+    by_outcome CannotReadData a p = none p
+    by_outcome DataTooLarge a p = none p
+    by_outcome Memory a p = none p
+    by_outcome Usage a p = none p
+    by_outcome NoScript a p = none p
+    by_outcome NoData a p = none p
+    by_outcome NotBuilt a p = none p
 
 -- the clauses of the run, over a shelf that may tell what it holds
 pub run_completes : {P Q : Type 0} (held : Option Files) (words : List (List ℕ)) (outcome : Outcome) (name : List ℕ) (how : Status)
@@ -104,10 +104,10 @@ run_settles (Some files) words outcome name how before after named told shows =
     (subst (λ n. Shows (shown n outcome) how before after) named shows) settled
 
 pub run_fronts : (held : Option Files) (words : List (List ℕ)) (outcome : Outcome) (name : List ℕ) (how : Status) (before after : Written)
-    → name ≡ script_name words → IfSome held (λ files. WithinLimit files → Agrees outcome (outcome_of files words))
+    → name ≡ script_name words → IfSome held (λ files. Prints outcome (outcome_of files words))
     → Shows (shown name outcome) how before after
-    → IfSome held (λ files. WithinLimit files → (n : ℕ) × Appends before.text after.text (take n (answer files words).text))
-run_fronts None words outcome name how before after named told shows = tt
-run_fronts (Some files) words outcome name how before after named told shows =
-    λ within. is_front (outcome_of files words) outcome (script_name words) how before after (told within)
+    → IfSome held (λ files. (n : ℕ) × Appends before.text after.text (take n (answer files words).text))
+run_fronts None words outcome name how before after named printed shows = tt
+run_fronts (Some files) words outcome name how before after named printed shows =
+    is_front (outcome_of files words) outcome (script_name words) how before after printed
     (subst (λ n. Shows (shown n outcome) how before after) named shows)

@@ -59,6 +59,16 @@ Agrees DataTooLarge due = Unit {0}
 Agrees Memory due = Unit {0}
 Agrees outcome due = outcome ≡ due
 
+-- an outcome prints nothing, or what is due
+abbrev pub Prints : Outcome → Outcome → Type 0
+Prints (Sum n) due = due ≡ Sum n
+Prints outcome due = Unit {0}
+
+-- an outcome is a sum
+abbrev pub IsSum : Outcome → Type 0
+IsSum (Sum n) = Unit {0}
+IsSum outcome = ⊥
+
 -- what a shelf counted, before and after a run: names that it missed and calls that failed, and the bytes that came of
 -- the file that was opened last
 pub record Counts : Type 0 where

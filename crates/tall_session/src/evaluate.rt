@@ -4,8 +4,9 @@ ghost use Rattle.std.specs.Prelude.{◌≡◌, ◌≢◌, ◌≤◌, ◌<◌, �
 ghost use Rattle.tall_outside.specs.Shelf.{file_in};
 ghost use Rattle.tall_session.specs.FirstScript.{data_name};
 ghost use Rattle.tall_session.specs.Column.{native_sum, sum_from};
-ghost use Rattle.tall_session.specs.Evaluation.{Agrees, IsExplained, WithinLimit, command, data_outcome, outcome_of, script_outcome, sum_outcome};
+ghost use Rattle.tall_session.specs.Evaluation.{Agrees, IsExplained, IsSum, Prints, WithinLimit, command, data_outcome, outcome_of, script_outcome, sum_outcome};
 ghost use Rattle.tall_session.specs.Counts.{opening_counts, shelf_counts};
+ghost use Rattle.tall_cut.specs.Feed.{counted};
 ghost use Rattle.tall_cut.specs.Asked.{Asks, Returns};
 ghost use Rattle.tall_cut.specs.Cuts.{cutter_left, cutter_shelf};
 
@@ -33,6 +34,7 @@ fn stopped<'s, S: Shelf, K: OpenedFile>(cutter: &Cutter<'s, S, K>) -> Outcome
     ensures explained { IsExplained result (opening_counts K.OpenedFile) (shelf_counts S.Shelf (cutter_shelf cutter.now)) }
     ensures longer { result ≡ Outcome.DataTooLarge → IfSome K.size (λ size. 2 ^ 50 < size) }
     ensures command { result ≢ Outcome.Usage }
+    ensures whole { IsSum result → ⊥ }
 {
     match cutter.cause() {
         Cause::Failed => Outcome::CannotReadData,
@@ -48,6 +50,7 @@ fn sum_left<'s, S: Shelf, K: OpenedFile>(cutter: &mut Cutter<'s, S, K>) -> Outco
     ensures explained { IsExplained result (opening_counts K.OpenedFile) (shelf_counts S.Shelf (cutter_shelf cutter.new)) }
     ensures longer { result ≡ Outcome.DataTooLarge → IfSome K.size (λ size. 2 ^ 50 < size) }
     ensures command { result ≢ Outcome.Usage }
+    ensures whole { IsSum result → IfSome K.size (λ size. counted size ≤ 2 ^ 50) }
 {
     match cutter.first_record() {
         Next::Block(header) => {
@@ -68,6 +71,7 @@ fn sum_blocks<'s, S: Shelf, K: OpenedFile>(cutter: &mut Cutter<'s, S, K>) -> Out
     ensures explained { IsExplained result (opening_counts K.OpenedFile) (shelf_counts S.Shelf (cutter_shelf cutter.new)) }
     ensures longer { result ≡ Outcome.DataTooLarge → IfSome K.size (λ size. 2 ^ 50 < size) }
     ensures command { result ≢ Outcome.Usage }
+    ensures whole { IsSum result → IfSome K.size (λ size. counted size ≤ 2 ^ 50) }
 {
     let mut sum = 0i16;
     for _turn in 0..u64::MAX {
@@ -93,6 +97,7 @@ fn sum_file<'s, S: Shelf, K: OpenedFile>(
     requires { Asks S.Shelf K.OpenedFile lent.shelf.ghost_name lent.shelf.now data_name (2 ^ 50) }
     ensures returns { (Some result.shelf.ghost_name ≡ K.lender) × (S.held result.shelf.now ≡ K.held) }
     ensures told { IfSome K.held (λ files. WithinLimit files → Agrees outcome.new (data_outcome (file_in files data_name))) }
+    ensures printed { IfSome K.held (λ files. Prints outcome.new (data_outcome (file_in files data_name))) }
     ensures explained { IsExplained outcome.new (opening_counts K.OpenedFile) (shelf_counts S.Shelf result.shelf.now) }
     ensures within { IfSome K.held (λ files. WithinLimit files → outcome.new ≢ Outcome.DataTooLarge) }
     ensures command { outcome.new ≢ Outcome.Usage }
@@ -117,6 +122,7 @@ fn sum_file<'s, S: Shelf, K: OpenedFile>(
 /// What the data file of a shelf comes to.
 fn evaluate_data<S: Shelf>(alloc: Global, shelf: &mut S) -> Outcome
     ensures told { IfSome (S.held shelf.old) (λ files. WithinLimit files → Agrees result (data_outcome (file_in files data_name))) }
+    ensures printed { IfSome (S.held shelf.old) (λ files. Prints result (data_outcome (file_in files data_name))) }
     ensures explained { IsExplained result (shelf_counts S.Shelf shelf.old) (shelf_counts S.Shelf shelf.new) }
     ensures within { IfSome (S.held shelf.old) (λ files. WithinLimit files → result ≢ Outcome.DataTooLarge) }
     ensures command { result ≢ Outcome.Usage }
@@ -129,6 +135,7 @@ fn evaluate_data<S: Shelf>(alloc: Global, shelf: &mut S) -> Outcome
 /// What the script of this name comes to.
 fn evaluate_script<S: Shelf>(alloc: Global, name: &str, shelf: &mut S) -> Outcome
     ensures told { IfSome (S.held shelf.old) (λ files. WithinLimit files → Agrees result (script_outcome files (file_in files name.now))) }
+    ensures printed { IfSome (S.held shelf.old) (λ files. Prints result (script_outcome files (file_in files name.now))) }
     ensures explained { IsExplained result (shelf_counts S.Shelf shelf.old) (shelf_counts S.Shelf shelf.new) }
     ensures within { IfSome (S.held shelf.old) (λ files. WithinLimit files → result ≢ Outcome.DataTooLarge) }
     ensures command { result ≢ Outcome.Usage }
@@ -153,6 +160,7 @@ fn evaluate_script<S: Shelf>(alloc: Global, name: &str, shelf: &mut S) -> Outcom
 /// What the words come to over the files of a shelf.
 pub fn evaluate<S: Shelf>(alloc: Global, words: &[String], shelf: &mut S) -> Outcome
     ensures told { IfSome (S.held shelf.old) (λ files. WithinLimit files → Agrees result (outcome_of files (map (λ word. string_bytes word) words.now))) }
+    ensures printed { IfSome (S.held shelf.old) (λ files. Prints result (outcome_of files (map (λ word. string_bytes word) words.now))) }
     ensures explained { IsExplained result (shelf_counts S.Shelf shelf.old) (shelf_counts S.Shelf shelf.new) }
     ensures within { IfSome (S.held shelf.old) (λ files. WithinLimit files → result ≢ Outcome.DataTooLarge) }
     ensures usage { (result ≡ Outcome.Usage) ↔ IsNone (command (map (λ word. string_bytes word) words.now)) }

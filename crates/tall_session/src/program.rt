@@ -49,8 +49,8 @@ pub fn run<R: Threads + Sync, S: Shelf + Send, O: Sink, E: Sink, G: Gate + Sync>
     ensures settled { IfSome (S.held shelf.old) (λ files. WithinLimit files → IsSettled result
         → ShowsAll (answer files (map (λ word. string_bytes word) words.now)) result
         (record { text = O.written out.old; line = E.written err.old }) (record { text = O.written out.new; line = E.written err.new })) }
-    ensures front { IfSome (S.held shelf.old) (λ files. WithinLimit files
-        → (n : ℕ) × Appends (O.written out.old) (O.written out.new) (take n (answer files (map (λ word. string_bytes word) words.now)).text)) }
+    ensures front { IfSome (S.held shelf.old) (λ files.
+        (n : ℕ) × Appends (O.written out.old) (O.written out.new) (take n (answer files (map (λ word. string_bytes word) words.now)).text)) }
 
     // What is shown is some outcome's, whether or not the shelf tells, and the outside's counts explain it.
     ensures cause { (outcome : _)

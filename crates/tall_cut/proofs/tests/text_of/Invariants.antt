@@ -1,0 +1,15 @@
+use Rattle.std.proofs.Common.{Some}
+use Rattle.std.specs.String.{string_bytes}
+use Rattle.tall_cut.specs.Asked.{and_name, size_in}
+use Rattle.tall_cut.proofs.tests.text_of.Given as goal
+
+abbrev pub ghosts-write_file : goal.ghosts-write_file
+ghosts-write_file g a = record {
+  lender = Some a.lent.shelf.ghost_name;
+  held = g.S.Shelf.held a.lent.shelf.now;
+  opened = and_name (g.S.Shelf.opened a.lent.shelf.now) (string_bytes a.name.now);
+  misses = g.S.Shelf.misses a.lent.shelf.now;
+  faults = g.S.Shelf.faults a.lent.shelf.now;
+  limit = a.limit;
+  size = size_in (g.S.Shelf.held a.lent.shelf.now) (string_bytes a.name.now);
+}
