@@ -1,0 +1,26 @@
+//! Clamp functions, and folds of columns that can be cut into blocks and joined.
+#![tactic(auto)]
+
+mod blocks;
+mod bounds;
+mod clamps;
+mod extremes;
+mod faults;
+mod folds;
+mod join;
+mod sums;
+mod terms;
+#[cfg(test)]
+mod tests;
+mod totals;
+mod truths;
+
+pub use blocks::{fold_blocks, fold_rows, outcome};
+pub use clamps::Clamp;
+pub use extremes::{Greatest, Least};
+pub use faults::FinishFault;
+pub use folds::Fold;
+pub use sums::ClampSum;
+pub use terms::Term;
+pub use totals::ExactSum;
+pub use truths::{AllTrue, AnyTrue, Count};
