@@ -91,6 +91,25 @@ const SUMS: &[Row] = &[
         line: "",
     },
     Row {
+        name: "other spellings of the same numbers",
+        words: GO,
+        files: &[("s.m", SCRIPT), ("a.csv", "x\n3e4\n 5000\n-1000.0\n")],
+        status: Status::Done,
+        text: "s = int16 31767\n",
+        line: "",
+    },
+    Row {
+        name: "fields are rounded and go to the nearest number of the class",
+        words: GO,
+        files: &[
+            ("s.m", SCRIPT),
+            ("a.csv", "x\n2.5\n+.5E+1\n-Inf\nNaN\n40000\n"),
+        ],
+        status: Status::Done,
+        text: "s = int16 7\n",
+        line: "",
+    },
+    Row {
         name: "no rows",
         words: GO,
         files: &[("s.m", SCRIPT), ("a.csv", "x\n")],
@@ -142,6 +161,14 @@ const REFUSALS: &[Row] = &[
         text: "",
         line: "tallrun: line 1: no file a.csv\n",
     },
+    Row {
+        name: "a field that spells no number",
+        words: GO,
+        files: &[("s.m", SCRIPT), ("a.csv", "x\n1\n5.\n\"\"\n")],
+        status: Status::Fault,
+        text: "",
+        line: "tallrun: line 1: row 2: variable x: not a number\n",
+    },
 ];
 
 /// Data that doesn't run today.
@@ -149,14 +176,9 @@ const OTHER_DATA: &[&str] = &[
     "",
     "x,y\n1,2\n",
     "y\n1\n",
-    "x\n40000\n",
-    "x\n-32769\n",
-    "x\n+1\n",
     "x\n\"\"\n",
+    "x\n1\n \t\n",
     "x\n1,2\n",
-    "x\n000001\n",
-    "x\n 1\n",
-    "x\n1\n2.5\n",
 ];
 
 #[test]

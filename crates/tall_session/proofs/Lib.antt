@@ -3,3 +3,4 @@ pub mod Reading
 pub mod FirstScripts
 pub mod Blocks
 pub mod Endings
+pub mod Lines

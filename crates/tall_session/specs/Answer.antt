@@ -1,12 +1,12 @@
 -- What a run shows, of its outcome: docs/LANGUAGE.md, "Printing", "Fault lines" and "Statuses".
 use Rattle.std.specs.Prelude.{List, ℕ, [], ◌++◌, codes, Option, ◌⊎◌, ◌≡◌, take}
 use Rattle.std.specs.Io.KnownBytes.{Appends}
-use Rattle.std.specs.Fmt.{signed_decimal}
+use Rattle.std.specs.Fmt.{decimal, signed_decimal}
 use Rattle.tall_session.specs.FirstScript.{data_name}
 use Rattle.tall_session.specs.declared.outcome.Status.{Status}
 use Rattle.tall_session.specs.declared.outcome.Status.TheVariants as status
 use Rattle.tall_session.specs.declared.outcome.Outcome.{Outcome}
-use Rattle.tall_session.specs.declared.outcome.Outcome.TheVariants.{Sum, Usage, NoScript, NoData, NotBuilt, CannotReadScript, CannotReadData, DataTooLarge, Memory}
+use Rattle.tall_session.specs.declared.outcome.Outcome.TheVariants.{Sum, Usage, NoScript, NoData, NotBuilt, NotANumber, CannotReadScript, CannotReadData, DataTooLarge, Memory}
 
 -- the status, the text for the standard output, and the line for the standard error
 pub record Answer : Type 0 where
@@ -29,6 +29,7 @@ shown name Usage = refusal status.Usage (codes "usage: tallrun [--workers N] SCR
 shown name NoScript = refusal status.Fault (codes "no file " ++ name)
 shown name NoData = refusal status.Fault (codes "line 1: no file " ++ data_name)
 shown name NotBuilt = refusal status.Fault (codes "not built")
+shown name (NotANumber row) = refusal status.Fault (codes "line 1: row " ++ decimal row ++ codes ": variable x: not a number")
 shown name CannotReadScript = refusal status.Read (codes "cannot read " ++ name)
 shown name CannotReadData = refusal status.Read (codes "cannot read " ++ data_name)
 shown name DataTooLarge = refusal status.Read (codes "file " ++ data_name ++ codes " above 2^50 bytes")

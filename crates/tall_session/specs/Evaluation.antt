@@ -1,13 +1,15 @@
 -- What words over files come to: docs/LANGUAGE.md, "Commands".
-use Rattle.std.specs.Prelude.{List, ℕ, ℤ, Option, Some, None, [], ◌∷◌, ◌≤◌, ◌<◌, ◌^◌, ◌≡◌, length, if◌then◌else◌, IfSome, unwrap_or}
+use Rattle.std.specs.Prelude.{List, ℕ, ℤ, Option, Some, None, Result, Ok, Err, [], ◌∷◌, ◌≤◌, ◌<◌, ◌^◌, ◌≡◌, length, if◌then◌else◌, IfSome, unwrap_or}
 use Rattle.tall_outside.specs.Shelf.{Files, file_in}
 use Rattle.tall_outside.specs.Count.{Rose}
 use Rattle.tall_cut.specs.Rows.{file_records}
 use Rattle.tall_session.specs.FirstScript.{is_first_script, data_name}
 use Rattle.tall_session.specs.Column.{native_sum}
+use Rattle.tall_session.specs.declared.column.ColumnFault.{ColumnFault}
+use Rattle.tall_session.specs.declared.column.ColumnFault.TheVariants as fault
 use Rattle.tall_session.specs.Answer.{Answer, shown}
 use Rattle.tall_session.specs.declared.outcome.Outcome.{Outcome}
-use Rattle.tall_session.specs.declared.outcome.Outcome.TheVariants.{Sum, Usage, NoScript, NoData, NotBuilt, CannotReadScript, CannotReadData, DataTooLarge, Memory}
+use Rattle.tall_session.specs.declared.outcome.Outcome.TheVariants.{Sum, Usage, NoScript, NoData, NotBuilt, NotANumber, CannotReadScript, CannotReadData, DataTooLarge, Memory}
 
 -- the script that the words name: the second of two words
 abbrev pub command : List (List ℕ) → Option (List ℕ)
@@ -16,10 +18,11 @@ command (program ∷ []) = None
 command (program ∷ script ∷ []) = Some script
 command (program ∷ script ∷ more ∷ words) = None
 
--- of a sum, if there is one
-abbrev pub sum_outcome : Option ℤ → Outcome
-sum_outcome None = NotBuilt
-sum_outcome (Some n) = Sum n
+-- of a sum, or of the reason why there is none
+abbrev pub sum_outcome : Result ℤ ColumnFault → Outcome
+sum_outcome (Ok n) = Sum n
+sum_outcome (Err fault.NotBuilt) = NotBuilt
+sum_outcome (Err (fault.NotANumber row)) = NotANumber row
 
 -- of the data file: the native sum of its records, whose fields a comma parts
 abbrev pub data_outcome : Option (List ℕ) → Outcome

@@ -1,6 +1,4 @@
 pub mod FirstScript
-pub mod Field
-pub mod FieldRows
 pub mod Status
 pub mod Answer
 pub mod Column

@@ -10,7 +10,7 @@ ghost use Rattle.tall_cut.specs.Feed.{counted};
 ghost use Rattle.tall_cut.specs.Asked.{Asks, Returns};
 ghost use Rattle.tall_cut.specs.Cuts.{cutter_left, cutter_shelf};
 
-use crate::column::{is_header, sum_records};
+use crate::column::{ColumnFault, block_clamp, is_header};
 use crate::outcome::Outcome;
 use crate::script::{is_first_script, read_front};
 use std::alloc::Global;
@@ -64,27 +64,43 @@ fn sum_left<'s, S: Shelf, K: OpenedFile>(cutter: &mut Cutter<'s, S, K>) -> Outco
     sum_blocks(cutter)
 }
 
+/// Why there is no sum, as an outcome.
+fn outcome_of_fault(fault: ColumnFault) -> Outcome
+    ensures { result ≡ sum_outcome (Err fault) }
+{
+    match fault {
+        ColumnFault::NotBuilt => Outcome::NotBuilt,
+        ColumnFault::NotANumber(row) => Outcome::NotANumber(row),
+    }
+}
+
 /// The native sum of the records that a cutter has left, block by block.
 fn sum_blocks<'s, S: Shelf, K: OpenedFile>(cutter: &mut Cutter<'s, S, K>) -> Outcome
     requires { K.limit ≡ 2 ^ 50 }
-    ensures told { IfSome (cutter_left cutter.old) (λ records. Agrees result (sum_outcome (sum_from (pos 0) records))) }
+    ensures told { IfSome (cutter_left cutter.old) (λ records. Agrees result (sum_outcome (sum_from (pos 0) 1 records))) }
     ensures explained { IsExplained result (opening_counts K.OpenedFile) (shelf_counts S.Shelf (cutter_shelf cutter.new)) }
     ensures longer { result ≡ Outcome.DataTooLarge → IfSome K.size (λ size. 2 ^ 50 < size) }
     ensures command { result ≢ Outcome.Usage }
     ensures whole { IsSum result → IfSome K.size (λ size. counted size ≤ 2 ^ 50) }
 {
     let mut sum = 0i16;
+    let mut row = 1u64;
     for _turn in 0..u64::MAX {
-        match cutter.next_block() {
-            Next::Block(block) => match sum_records(sum, &block) {
-                Some(next) => sum = next,
-                None => return Outcome::NotBuilt,
-            },
+        let block = match cutter.next_block() {
+            Next::Block(block) => block,
             Next::End => return Outcome::Sum(sum),
             Next::Stopped => return stopped(cutter),
+        };
+        let Some(next_row) = row.checked_add(block.len() as u64) else {
+            break;
+        };
+        match block_clamp(row, &block) {
+            Ok(clamp) => sum = clamp.apply(sum),
+            Err(fault) => return outcome_of_fault(fault),
         }
+        row = next_row;
     }
-    // No file that the limit lets through has so many blocks.
+    // No file that the limit lets through has so many blocks, or rows.
     Outcome::Memory
 }
 

@@ -3,7 +3,6 @@
 
 mod column;
 mod evaluate;
-mod field;
 mod outcome;
 mod program;
 mod script;

@@ -49,6 +49,8 @@ pub enum Outcome {
     NoData,
     /// A script or data that isn't built yet.
     NotBuilt,
+    /// The field of this row, counted from 1, spells no number.
+    NotANumber(u64),
     /// A call on the script's file failed.
     CannotReadScript,
     /// A call on the data file failed.

@@ -51,6 +51,9 @@ fn line_of(alloc: Global, outcome: Outcome, name: &str) -> Result<String, AllocE
         Outcome::NoScript => format!(in alloc; "tallrun: no file {name}\n"),
         Outcome::NoData => String::from_str(alloc, "tallrun: line 1: no file a.csv\n"),
         Outcome::NotBuilt => String::from_str(alloc, "tallrun: not built\n"),
+        Outcome::NotANumber(row) => {
+            format!(in alloc; "tallrun: line 1: row {row}: variable x: not a number\n")
+        }
         Outcome::CannotReadScript => format!(in alloc; "tallrun: cannot read {name}\n"),
         Outcome::CannotReadData => String::from_str(alloc, "tallrun: cannot read a.csv\n"),
         Outcome::DataTooLarge => {
@@ -67,7 +70,9 @@ fn status_of(outcome: Outcome) -> Status
     match outcome {
         Outcome::Sum(_) => Status::Done,
         Outcome::Usage => Status::Usage,
-        Outcome::NoScript | Outcome::NoData | Outcome::NotBuilt => Status::Fault,
+        Outcome::NoScript | Outcome::NoData | Outcome::NotBuilt | Outcome::NotANumber(_) => {
+            Status::Fault
+        },
         Outcome::CannotReadScript | Outcome::CannotReadData | Outcome::DataTooLarge => Status::Read,
         Outcome::Memory => Status::Memory,
     }
