@@ -1,0 +1,11 @@
+-- Columns: lists of cells, and lists of rows, which are cells with their row numbers.
+use Rattle.std.specs.Prelude.{ℕ, ◌+◌, List, [], ◌∷◌, map}
+use Rattle.tall_value.specs.Cells.{Seen}
+
+-- the cells as rows, numbered from n
+abbrev pub numbered : ℕ → List Seen → List (ℕ × Seen)
+numbered n [] = []
+numbered n (c ∷ cs) = (n, c) ∷ numbered (n + 1) cs
+
+abbrev pub cells : List (ℕ × Seen) → List Seen
+cells rows = map (λ (r : ℕ × Seen). r.1) rows
