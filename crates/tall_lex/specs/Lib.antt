@@ -1,0 +1,9 @@
+pub mod Bytes
+pub mod Faults
+pub mod Fits
+pub mod Numbers
+pub mod PieceRows
+pub mod Pieces
+pub mod Places
+pub mod TokenRows
+pub mod Tokens

@@ -1,0 +1,17 @@
+//! The tokens of a script, and the first bad token of one that has such. docs/LANGUAGE.md says what a script's text is; it
+//! is a profile of the MathWorks language (pages "Comments", "Continue Long Statements on Multiple Lines", "Variable
+//! Names" and "Special Characters"). A token's text is the slice of its span.
+#![tactic(auto)]
+
+mod bytes;
+mod lexer;
+mod numbers;
+mod pieces;
+mod places;
+pub mod tokens;
+
+pub use lexer::{lex, lex_bytes};
+pub use tokens::{LexFault, Token, TokenKind};
+
+#[cfg(test)]
+mod tests;
