@@ -119,6 +119,8 @@ impl<'s, S: Shelf, K: OpenedFile> Read for Feed<'s, S, K> {
     fn read(&mut self, buf: &mut [u8]) -> io::Result<usize>
         ensures bound { ReadsAtMost result buf.new }
         ensures bytes { ReadConsumes (feed_left self.old) (feed_left self.new) result buf.new }
+        ensures failed { self.old.failed ≡ true → IsErr result }
+        ensures large { self.old.too_large ≡ true → IsErr result }
         ensures why { IsErr result → (self.new.failed ≡ true) ⊎ (self.new.too_large ≡ true) }
     {
         if self.failed || self.too_large {

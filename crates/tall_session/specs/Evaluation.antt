@@ -24,10 +24,14 @@ sum_outcome (Ok n) = Sum n
 sum_outcome (Err fault.NotBuilt) = NotBuilt
 sum_outcome (Err (fault.NotANumber row)) = NotANumber row
 
--- of the data file: the native sum of its records, whose fields a comma parts
+-- the byte between two fields
+abbrev pub comma : ℕ
+comma = 44
+
+-- of the data file: the native sum of its records
 abbrev pub data_outcome : Option (List ℕ) → Outcome
 data_outcome None = NoData
-data_outcome (Some bytes) = sum_outcome (native_sum (file_records 44 bytes))
+data_outcome (Some bytes) = sum_outcome (native_sum (file_records comma bytes))
 
 -- of the script's file
 abbrev pub script_outcome : Files → Option (List ℕ) → Outcome
