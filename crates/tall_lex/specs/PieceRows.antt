@@ -115,6 +115,10 @@ text : alone (codes "'a b' ") ≡ Token Text 5
 unfolding piece_at name_piece is_reserved number_piece number_len fraction_len exponent_len is_whole_number text_piece comment_piece joined_piece sign_piece
 text = refl
 
+long_text : alone (codes "'abcdefghijklmnopqrstuvwxyzabcdefghijklmnopqrstuvwxyzabcdefghijklmnopqrstuvwxyz'") ≡ Token Text 80
+unfolding piece_at name_piece is_reserved number_piece number_len fraction_len exponent_len is_whole_number text_piece comment_piece joined_piece sign_piece
+long_text = refl
+
 empty_text : alone (codes "''") ≡ Token Text 2
 unfolding piece_at name_piece is_reserved number_piece number_len fraction_len exponent_len is_whole_number text_piece comment_piece joined_piece sign_piece
 empty_text = refl

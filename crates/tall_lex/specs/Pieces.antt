@@ -62,9 +62,9 @@ number_piece text =
 abbrev pub text_len : ℕ → ℕ → Bool → List ℕ → Option ℕ
 text_len quote n pending [] = if pending then Some n else None
 text_len quote n pending (b ∷ rest) =
-    if pending then (if b == quote then text_len quote (n + 1) false rest else Some n)
-    else if b == 10 then None
-    else text_len quote (n + 1) (b == quote) rest
+    if pending && not (b == quote) then Some n
+    else if (b == 10) && not pending then None
+    else text_len quote (n + 1) ((b == quote) && not pending) rest
 
 -- how many bytes stand before the first carriage return, or all
 abbrev pub before_return : List ℕ → ℕ
