@@ -1,6 +1,6 @@
 -- The operators of integer classes, on unbounded whole numbers and the ends of the class. MathWorks, Integers: the
--- exact result, rounded, then the nearest number of the class. Over zero a positive dividend gives the greatest number
--- of the class, a negative one the least, and zero gives 0.
+-- exact result, rounded, then the nearest number of the class. Over zero the project's own rule holds
+-- (docs/LANGUAGE.md): a positive dividend gives the greatest number of the class, a negative one the least, and zero 0.
 use Rattle.std.specs.Prelude.{ℤ, pos, ◌+ℤ◌, ◌-ℤ◌, ◌*ℤ◌, ◌==◌, unsigned_abs, if◌then◌else◌}
 use Rattle.std.specs.Int.{is_negative, is_positive}
 use Rattle.tall_int.specs.Numbers.{nearest}

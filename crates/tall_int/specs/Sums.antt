@@ -1,5 +1,5 @@
--- Sums of columns of one integer class. MathWorks, sum with 'native', and Integers: each row is added in the class, so
--- the sum goes to the nearest number of the class after each row, in row order.
+-- Sums of columns of one integer class. MathWorks, sum with 'native': the sum stays in the class. That it is the left
+-- fold from the first row on, kept in the class after each row, is the project's own rule (docs/LANGUAGE.md).
 use Rattle.std.specs.Prelude.{ℤ, ◌+ℤ◌, List, [], ◌∷◌}
 use Rattle.tall_int.specs.Numbers.{nearest}
 

@@ -34,6 +34,13 @@ rounded_down = refl
 pub rounded_up : quotient Ceil (negsuc 6) (pos 2) ≡ negsuc 2
 rounded_up = refl
 
+-- 7 over 2, above 0
+pub cut_above_zero : quotient Fix (pos 7) (pos 2) ≡ pos 3
+cut_above_zero = refl
+
+pub up_above_zero : quotient Ceil (pos 7) (pos 2) ≡ pos 4
+up_above_zero = refl
+
 -- mod(int8(-7), int8(3)) is 2, mod(int8(7), int8(-3)) is -2, and mod(x, 0) is x
 pub remainder_of_the_floor : remainder (negsuc 6) (pos 3) ≡ pos 2
 remainder_of_the_floor = refl
@@ -54,7 +61,7 @@ negative_over_zero = refl
 pub zero_over_zero : operation (Idivide Fix) (negsuc 127) (pos 127) (pos 0) (pos 0) ≡ pos 0
 zero_over_zero = refl
 
--- -6 and 5 have the bits ..11010 and ..00101
+-- -6 and 7 have the bits ..11010 and ..00111
 pub bits_of_both : twos_and (negsuc 5) (pos 7) ≡ pos 2
 bits_of_both = refl
 
