@@ -1,2 +1,16 @@
 pub mod Ends
 pub mod Steps
+pub mod Fronts
+pub mod Words
+pub mod Found
+pub mod NamePieces
+pub mod TextPieces
+pub mod Lines
+pub mod GapPieces
+pub mod SignPieces
+pub mod NumberPieces
+pub mod Begun
+pub mod SpotsBehind
+pub mod Scripts
+pub mod ByteScripts
+pub mod Slices

@@ -1,9 +1,14 @@
+pub mod BadTokens
 pub mod Bytes
 pub mod Faults
 pub mod Fits
+pub mod GapGrammar
+pub mod GrammarRows
 pub mod Numbers
 pub mod PieceRows
 pub mod Pieces
 pub mod Places
+pub mod ScriptGrammar
+pub mod TokenGrammar
 pub mod TokenRows
 pub mod Tokens

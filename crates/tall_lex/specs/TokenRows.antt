@@ -64,6 +64,22 @@ point_before_an_operator : lexed (codes "5..*2") ≡ Ok ((Number, 1, codes "5") 
 unfolding tokens_from piece_at name_piece is_reserved number_piece number_len fraction_len exponent_len is_whole_number text_piece comment_piece joined_piece sign_piece
 point_before_an_operator = refl
 
+number_before_a_joined_line : lexed (codes "5...*2" ++ lf ++ codes "+1") ≡ Ok ((Number, 1, codes "5") ∷ (Sign, 2, codes "+") ∷ (Number, 2, codes "1") ∷ [])
+unfolding tokens_from piece_at name_piece is_reserved number_piece number_len fraction_len exponent_len is_whole_number text_piece comment_piece joined_piece sign_piece
+number_before_a_joined_line = refl
+
+four_dots : lexed (codes "a....b" ++ lf ++ codes "c") ≡ Ok ((Name, 1, codes "a") ∷ (Name, 2, codes "c") ∷ [])
+unfolding tokens_from piece_at name_piece is_reserved number_piece number_len fraction_len exponent_len is_whole_number text_piece comment_piece joined_piece sign_piece
+four_dots = refl
+
+empty_text : lexed (codes "x = '';") ≡ Ok ((Name, 1, codes "x") ∷ (Sign, 1, codes "=") ∷ (Text, 1, codes "''") ∷ (Sign, 1, codes ";") ∷ [])
+unfolding tokens_from piece_at name_piece is_reserved number_piece number_len fraction_len exponent_len is_whole_number text_piece comment_piece joined_piece sign_piece
+empty_text = refl
+
+quote_at_the_end_of_a_text : lexed (codes "x = 'its''';") ≡ Ok ((Name, 1, codes "x") ∷ (Sign, 1, codes "=") ∷ (Text, 1, codes "'its'''") ∷ (Sign, 1, codes ";") ∷ [])
+unfolding tokens_from piece_at name_piece is_reserved number_piece number_len fraction_len exponent_len is_whole_number text_piece comment_piece joined_piece sign_piece
+quote_at_the_end_of_a_text = refl
+
 quote_behind_a_word : lexed (codes "end'x'") ≡ Ok ((Word, 1, codes "end") ∷ (Text, 1, codes "'x'") ∷ [])
 unfolding tokens_from piece_at name_piece is_reserved number_piece number_len fraction_len exponent_len is_whole_number text_piece comment_piece joined_piece sign_piece
 quote_behind_a_word = refl

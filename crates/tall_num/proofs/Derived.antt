@@ -36,11 +36,11 @@ first_append (x ∷ xs) ys h = refl
 
 -- ---- a front of which all pass, before an element that doesn't
 
-prefix_zero : (p : ℕ → Bool) (xs : List ℕ) → p (first xs) ≡ false → prefix_len p xs ≡ 0
+pub prefix_zero : (p : ℕ → Bool) (xs : List ℕ) → p (first xs) ≡ false → prefix_len p xs ≡ 0
 prefix_zero p [] h = refl
 prefix_zero p (x ∷ xs) h = passed (p x) (1 + prefix_len p xs) 0 h
 
-prefix_front : (p : ℕ → Bool) (xs rest : List ℕ) → list_all p xs ≡ true → p (first rest) ≡ false → prefix_len p (xs ++ rest) ≡ length xs
+pub prefix_front : (p : ℕ → Bool) (xs rest : List ℕ) → list_all p xs ≡ true → p (first rest) ≡ false → prefix_len p (xs ++ rest) ≡ length xs
 prefix_front p [] rest h k = prefix_zero p rest k
 prefix_front p (x ∷ xs) rest h k =
     let parts = and_parts (p x) (list_all p xs) h in
@@ -69,7 +69,7 @@ sign_flag sign negative rest minus h = refl
 digit_no_sign : (b : ℕ) → is_ascii_digit b ≡ true → (((b == 45) || (b == 43)) ≡ false) × ((b == 45) ≡ false)
 digit_no_sign b h = let range = digit_range b h in (grind (arith, nat_tests), grind (arith, nat_tests))
 
-letter_no_digit : (b : ℕ) → is_letter 101 b ≡ true → (is_ascii_digit b ≡ false) × ((b == 46) ≡ false)
+pub letter_no_digit : (b : ℕ) → is_letter 101 b ≡ true → (is_ascii_digit b ≡ false) × ((b == 46) ≡ false)
 letter_no_digit b h = (grind (arith, nat_tests), grind (arith, nat_tests))
 
 exponent_first : (text : List ℕ) (e : ℤ) → Exponent text e → (is_ascii_digit (first text) ≡ false) × ((first text == 46) ≡ false)
