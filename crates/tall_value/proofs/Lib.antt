@@ -1,1 +1,3 @@
 pub mod OrderLaws
+pub mod KindLaws
+pub mod FunctionLaws

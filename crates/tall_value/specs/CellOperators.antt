@@ -1,6 +1,6 @@
 -- The cell that an operator gives of cells, or why it has none. The class tables say which classes an operator takes;
--- of other classes nothing is meant here, and a text counts as a NaN. MathWorks, Integers, idivide, mod, bitand; doubles
--- are NaN or whole numbers of magnitude at most 2^53.
+-- of other classes nothing is meant here, and a text counts as a NaN, though for `isnan` it is none. MathWorks, Integers,
+-- idivide, mod, bitand; doubles are NaN or whole numbers of magnitude at most 2^53.
 use Rattle.std.specs.Prelude.{ℤ, pos, neg_ℤ, unsigned_abs, Bool, true, false, not, ◌&&◌, ◌||◌, ◌==◌, Option, None, Some, Result, Ok, Err}
 use Rattle.std.specs.declared.cmp.Ordering.{Ordering}
 use Rattle.std.specs.declared.cmp.Ordering.TheVariants.{Less, Equal, Greater}

@@ -1,6 +1,6 @@
 -- The order of cells of one class: numbers by value, false before true, texts by their UTF-8 bytes, and NaN last and
--- equal to itself. Cells of two classes, which never stand in one column, are ordered by their kinds, so that the order
--- is total.
+-- equal to itself. Cells of two classes never stand in one column; so that the order is total, integers of two classes
+-- are ordered by value, and all else by the kind: integers, logicals, doubles, texts.
 use Rattle.std.specs.Prelude.{ℤ, ℕ, Option, None, Some}
 use Rattle.std.specs.declared.cmp.Ordering.{Ordering}
 use Rattle.std.specs.declared.cmp.Ordering.TheVariants.{Less, Equal, Greater}

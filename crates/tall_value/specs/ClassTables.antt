@@ -61,15 +61,15 @@ abbrev pub of_number : Kind → Kind → Result Kind ClassFault
 of_number Text k = Err BadClass
 of_number a k = Ok k
 
--- `& |`: any two of integer, logical, double: logical
-abbrev pub both_numbers : Kind → Kind → Result Kind ClassFault
-both_numbers Text b = Err BadClass
-both_numbers a b = of_number b Logical
-
 -- `== ~= < <= > >=`: any two of integer, logical, double; or string with string: logical
 abbrev pub comparison_kind : Kind → Kind → Result Kind ClassFault
 comparison_kind Text b = texts_kind Text b
 comparison_kind a b = of_number b Logical
+
+-- `& |`: any two of integer, logical, double: logical
+abbrev pub both_numbers : Kind → Kind → Result Kind ClassFault
+both_numbers Text b = Err BadClass
+both_numbers a b = of_number b Logical
 
 abbrev pub binary_kind : Binary → Kind → Bool → Kind → Bool → Result Kind ClassFault
 binary_kind Add a a_scalar b b_scalar = arithmetic_kind a a_scalar b b_scalar

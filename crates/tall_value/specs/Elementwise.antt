@@ -19,7 +19,8 @@ abbrev pub each_row : (Seen → Result Seen CellFault) → List (ℕ × Seen) �
 each_row f [] = Ok []
 each_row f (r ∷ rows) = at_row r.0 (f r.1) (each_row f rows)
 
--- two columns of one space, which have the same row numbers
+-- two columns of one space or of one length in memory: equally many rows with the same numbers. Columns of unequal
+-- lengths are refused before, and of these nothing is meant here
 abbrev pub each_pair : (Seen → Seen → Result Seen CellFault) → List (ℕ × Seen) → List (ℕ × Seen) → Result (List (ℕ × Seen)) (ℕ × CellFault)
 each_pair f [] others = Ok []
 each_pair f (r ∷ rows) [] = Ok []

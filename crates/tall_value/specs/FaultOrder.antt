@@ -1,4 +1,6 @@
--- The least of several faults: by the expression's number, then by the row, where none comes before all rows.
+-- The least of several faults of operators and functions: by the expression's number, then by the row, where none comes
+-- before all rows. A reading fault of a datastore has a column and its datastore besides; where numbers and rows are
+-- equal, these order it, and that order is defined where datastores are known.
 use Rattle.std.specs.Prelude.{ℕ, ◌+◌, Bool, if◌then◌else◌, Option, None, Some, List, [], ◌∷◌}
 use Rattle.std.specs.Ordering.{nat_cmp, is_lt}
 use Rattle.std.specs.Cmp.Lexicographic.{slice_cmp}

@@ -6,7 +6,8 @@ abbrev pub is_true : Seen → Bool
 is_true (logical true) = true
 is_true c = false
 
--- of rows or of cells, by the cells of the mask
+-- of rows or of cells, by the cells of the mask: as many as there are rows, since a mask of another length is refused
+-- before, and of such a mask nothing is meant here
 abbrev pub kept : {R : Type 0} → List R → List Seen → List R
 kept [] mask = []
 kept (r ∷ rows) [] = []

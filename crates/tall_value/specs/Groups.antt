@@ -22,7 +22,8 @@ group_keys keys = ascending (present keys) ++ (if list_any is_nan keys then doub
 abbrev pub is_of_group : Seen → Seen → Bool
 is_of_group key c = is_eq (cell_order key c)
 
--- the data of the rows with the key, in order
+-- the data of the rows with the key, in order. The keys and the data are columns of one table, so equally many; of
+-- unequal lengths nothing is meant here
 abbrev pub group_data : Seen → List Seen → List Seen → List Seen
 group_data key [] data' = []
 group_data key (k ∷ keys) [] = []

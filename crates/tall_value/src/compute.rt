@@ -1,7 +1,10 @@
 //! The cell that an operator gives of cells.
-ghost use Rattle.std.specs.Prelude.{◌≡◌, ◌≤◌, ◌^◌, IfSome, not, neg_ℤ, pos, ◌&&◌, ◌||◌, unsigned_abs};
+ghost use Rattle.std.specs.Prelude.{◌≡◌, ◌≤◌, ◌^◌, Bool, IfSome, not, neg_ℤ, pos, ◌&&◌, ◌||◌, unsigned_abs};
 ghost use Rattle.tall_int.specs.Doubles.{exact, whole_abs, whole_neg};
-ghost use Rattle.tall_value.specs.Cells.{is_nan, logical, seen, whole};
+ghost use Rattle.tall_value.specs.Cells.{Seen, is_nan, logical, seen, seen_kind, whole};
+ghost use Rattle.tall_value.specs.Classes.{class_of};
+ghost use Rattle.tall_value.specs.ClassTables.{binary_class, unary_class};
+ghost use Rattle.tall_value.specs.declared.class.Class.{Class};
 ghost use Rattle.tall_value.specs.CellOperators.{above, arithmetic, as_double, below, binary_cell, bits, comparison, compared, double_cell, equal, in_class, integer_side, joined, of_doubles, or_zero, signed, to_double, to_integer, truth, truth_cell, unary_cell};
 ghost use Rattle.tall_value.specs.Results.{result_seen};
 ghost use Rattle.tall_value.specs.Tasks.{bit_operation};
@@ -326,3 +329,9 @@ pub fn unary<'a>(op: Unary, a: &Cell<'_>) -> Result<Cell<'a>, CellFault>
         Unary::IsNan => logical(is_nan(a)),
     }
 }
+
+/// What an operator gives of cells has the class that the class table says, whichever operands are scalars.
+pub fn results_have_their_class()
+    ensures one { (op : Unary) (x c : Seen) (k : Class) → unary_class op (class_of (seen_kind x)) ≡ Ok k → unary_cell op x ≡ Ok c → class_of (seen_kind c) ≡ k }
+    ensures two { (op : Binary) (x y c : Seen) (s t : Bool) (k : Class) → binary_class op (class_of (seen_kind x)) s (class_of (seen_kind y)) t ≡ Ok k → binary_cell op x y ≡ Ok c → class_of (seen_kind c) ≡ k }
+{}

@@ -1,5 +1,6 @@
 //! Numbers of the integer classes: each class in one place, by the generic operators.
-ghost use Rattle.std.specs.Prelude.{◌≡◌};
+ghost use Rattle.std.specs.Prelude.{◌≡◌, ◌≤ℤ◌};
+ghost use Rattle.tall_int.specs.Numbers.{nearest};
 ghost use Rattle.tall_value.specs.Cells.{seen, whole};
 ghost use Rattle.tall_value.specs.Classes.{greatest, least};
 ghost use Rattle.tall_value.specs.Tasks.{IsSmallTask, bit_operation, task_number};
@@ -62,5 +63,16 @@ pub(crate) fn made<'a>(kind: IntKind, task: Task) -> Cell<'a>
         IntKind::Uint16 => Cell::U16(in_class(task)),
         IntKind::Uint32 => Cell::U32(in_class(task)),
         IntKind::Uint64 => Cell::U64(in_class(task)),
+    }
+}
+
+impl<'a> Cell<'a> {
+    /// The cell of an integer class whose number is `n`; where `n` is outside the range of the class, the nearest number
+    /// of the class (docs/LANGUAGE.md, operators; MathWorks, Integers). `Cell::content` is the way back.
+    pub fn of_class(kind: IntKind, n: i128) -> Cell<'a>
+        ensures nearest { seen result ≡ whole kind (nearest (least kind) (greatest kind) n) }
+        ensures exact { least kind ≤ℤ n → n ≤ℤ greatest kind → seen result ≡ whole kind n }
+    {
+        made(kind, Task::Nearest(n))
     }
 }

@@ -32,7 +32,8 @@ fn rank(cell: &Cell<'_>) -> u8
 }
 
 /// The order of two cells of one class: numbers by value with NaN last and equal to itself, false before true, texts by
-/// their UTF-8 bytes. Cells of two classes are ordered by their kinds, so that the order is total on all cells.
+/// their UTF-8 bytes. So that the order is total on all cells, integers of two classes are ordered by value, and other
+/// cells of two classes by their kinds: integers, logicals, doubles, texts.
 pub fn order(a: &Cell<'_>, b: &Cell<'_>) -> Ordering
     ensures { result ≡ cell_order (seen a.now) (seen b.now) }
 {

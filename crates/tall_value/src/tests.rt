@@ -334,6 +334,36 @@ fn refused_cells_of_one(rt: HostRuntime) {
     );
 }
 
+fn all_hold(rt: &impl Abort, rows: &[(IntKind, i128, Cell<'_>)]) {
+    for (kind, n, want) in rows {
+        let c = Cell::of_class(*kind, *n);
+        assert!(rt; c == *want, "{kind:?} {n} gives {c:?}");
+    }
+}
+
+#[test]
+fn cells_of_classes(rt: HostRuntime) {
+    all_hold(
+        &rt,
+        &[
+            (IntKind::Int8, -128, Cell::I8(-128)),
+            (IntKind::Int8, 128, Cell::I8(127)),
+            (IntKind::Int16, -32768, Cell::I16(-32768)),
+            (IntKind::Int32, 2147483647, Cell::I32(2147483647)),
+            (IntKind::Int64, i128::MIN, Cell::I64(-9223372036854775808)),
+            (IntKind::Uint8, -1, Cell::U8(0)),
+            (IntKind::Uint16, 65535, Cell::U16(65535)),
+            (IntKind::Uint32, 4294967295, Cell::U32(4294967295)),
+            (
+                IntKind::Uint64,
+                18446744073709551615,
+                Cell::U64(18446744073709551615),
+            ),
+            (IntKind::Uint64, i128::MAX, Cell::U64(18446744073709551615)),
+        ],
+    );
+}
+
 #[test]
 fn orders(rt: HostRuntime) {
     use std::cmp::Ordering::{Equal, Greater, Less};
