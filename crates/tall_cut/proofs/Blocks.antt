@@ -1,11 +1,13 @@
--- Records in one long record: what a row more does to them, and where their fields stand.
-use Rattle.std.proofs.Common.{◌≡◌, ◌≤◌, ◌<◌, ◌-◌, ◌+◌, ◌∙◌, ℕ, zero, suc, get_or, List, [], ◌∷◌, ◌++◌, take, drop, length, refl, sym, ap, arith}
-use Rattle.std.proofs.lemmas.List.{drop-append-le, get_or-drop, get_or-take, length-append, length-drop, length-take-le, take-append-le, take_all}
-use Rattle.csv.specs.Records.{Rising, Row, fields_of, last_end, partial_of, prev}
-use Rattle.csv.proofs.RecordFacts.{field-bounds, last-append, rising-end, rising-first, rising-more}
+-- Records in one text: what a row more does to them, and where their fields stand.
+use Rattle.std.proofs.Common.{◌≡◌, ◌≤◌, ◌<◌, ◌-◌, ◌+◌, ◌∙◌, ℕ, zero, suc, get_or, List, [], ◌∷◌, ◌++◌, take, drop, length, refl, sym, ap, arith, inl, inr}
+use Rattle.std.proofs.lemmas.Bool.{cases_lt}
+use Rattle.std.proofs.lemmas.List.{append-nil, append_assoc, drop-append-le, drop-drop, drop_all, get_or-drop, get_or-take, length-append, length-drop, length-take, length-take-le, take_more, take-append-drop, take-append-le, take_all}
+use Rattle.csv.specs.Records.{Rising, Row, cut_from, fields_of, last_end, partial_of, prev, text_of}
+use Rattle.csv.proofs.RecordFacts.{cut-length, cut-more, field-bounds, last-append, rising-end, rising-first, rising-more}
 use Rattle.csv.proofs.ReadFacts.{get-same}
 use Rattle.tall_cut.specs.Rows.{Fields}
-use Rattle.tall_cut.specs.Blocks.{Closed, groups}
+use Rattle.tall_cut.specs.Blocks.{Closed, ends_from, groups, joined}
+use Rattle.std.proofs.Math.Seq.{drop-append_seam, take-append_seam}
 
 -- one group for each place
 pub groups_length : (start : ℕ) (ends : List ℕ) (fields : Fields) → length (groups start ends fields) ≡ length ends
@@ -50,31 +52,177 @@ groups-push ends fields more h last =
     let up = rising-more 0 ends (length fields) (length (fields ++ more)) h low in
     groups-end 0 ends (fields ++ more) up ∙ rw (last, drop-front fields more, groups-more 0 ends fields more h) refl
 
--- the same, of open records
-pub rows_push : (ends ends2 : List ℕ) (all all2 : Row) (more : Fields) → Closed ends all → fields_of all2 ≡ fields_of all ++ more → ends2 ≡ ends ++ (length (fields_of all2) ∷ [])
-    → groups 0 ends2 (fields_of all2) ≡ groups 0 ends (fields_of all) ++ (more ∷ [])
-rows_push ends ends2 all all2 more h f e = rw (e, f) (groups-push ends (fields_of all) more h.rising h.last)
+-- The fields of a record follow each other.
 
-pub closed_push : (ends ends2 : List ℕ) (all all2 : Row) (more : Fields) → Closed ends all → fields_of all2 ≡ fields_of all ++ more → ends2 ≡ ends ++ (length (fields_of all2) ∷ []) → partial_of all2 ≡ []
-    → Closed ends2 all2
-closed_push ends ends2 all all2 more h f e p =
-    let size : length (fields_of all2) ≡ length (fields_of all) + length more = ap length f ∙ length-append (fields_of all) more in
-    let low : length (fields_of all) ≤ length (fields_of all2) = omega arith in
-    let up = rising-more 0 ends (length (fields_of all)) (length (fields_of all2)) h.rising low in
+-- no field yet
+pub end_start : (start : ℕ) → start + length (joined []) ≡ start
+unfolding joined
+end_start start = omega arith
+
+pub ends_start : (start : ℕ) (before : List ℕ) → before ≡ before ++ ends_from start []
+unfolding ends_from
+ends_start start before = sym (append-nil before)
+
+-- one field more
+pub joined_more : (fields : Fields) (field : List ℕ) → joined (fields ++ field ∷ []) ≡ joined fields ++ field
+unfolding joined
+joined_more [] field = append-nil field
+joined_more (f ∷ fs) field = rw (joined_more fs field) (sym (append_assoc f (joined fs) field))
+
+pub ends_more : (start : ℕ) (fields : Fields) (field : List ℕ) → ends_from start (fields ++ field ∷ []) ≡ ends_from start fields ++ (start + length (joined fields) + length field) ∷ []
+unfolding joined ends_from
+ends_more start [] field = ap (λ n. n ∷ []) (omega arith)
+ends_more start (f ∷ fs) field =
+    let size = length-append f (joined fs) in
+    let same : start + length f + length (joined fs) + length field ≡ start + length (f ++ joined fs) + length field = omega arith in
+    rw (ends_more (start + length f) fs field, same) refl
+
+-- the same, of the fields of a record
+pub end_next : (fields : Fields) (k start end width : ℕ) → k < length fields → start + length (joined (take k fields)) ≡ end → width ≡ length (get_or fields k [])
+    → start + length (joined (take (k + 1) fields)) ≡ end + width
+end_next fields k start end width lt e w =
+    let size = length-append (joined (take k fields)) (get_or fields k []) in
+    rw (take_more fields k [] lt, joined_more (take k fields) (get_or fields k [])) (omega arith)
+
+pub ends_next : (fields : Fields) (k start end width : ℕ) (before now next : List ℕ) → k < length fields → start + length (joined (take k fields)) ≡ end → width ≡ length (get_or fields k [])
+    → now ≡ before ++ ends_from start (take k fields) → next ≡ now ++ (end + width) ∷ [] → next ≡ before ++ ends_from start (take (k + 1) fields)
+ends_next fields k start end width before now next lt e w i n =
+    rw (n, i, take_more fields k [] lt, ends_more start (take k fields) (get_or fields k []), ← e, w)
+    (append_assoc before (ends_from start (take k fields)) ((start + length (joined (take k fields)) + length (get_or fields k [])) ∷ []))
+
+-- the widths of the fields up to the last place come at least to what they cut
+width-low : (start : ℕ) (ends bytes : List ℕ) → length bytes ≤ last_end start ends → length bytes ≤ start + length (joined (cut_from start ends bytes))
+unfolding cut_from joined last_end
+width-low start [] bytes h = omega arith
+width-low start (end ∷ ends) bytes h =
+    let rest = width-low end ends bytes h in
+    let size = length-append (take (end - start) (drop start bytes)) (joined (cut_from end ends bytes)) in
+    let first = length-take (end - start) (drop start bytes) in
+    let left = length-drop start bytes in
+    omega arith
+
+-- fields that are together as long as their text are the text
+pub cut_joined : (start : ℕ) (ends bytes : List ℕ) → length bytes ≤ last_end start ends → length (joined (cut_from start ends bytes)) ≡ length bytes - start
+    → joined (cut_from start ends bytes) ≡ drop start bytes
+unfolding cut_from joined last_end
+cut_joined start [] bytes h e = sym (drop_all start bytes h)
+cut_joined start (end ∷ ends) bytes h e =
+    let low = width-low end ends bytes h in
+    let size = length-append (take (end - start) (drop start bytes)) (joined (cut_from end ends bytes)) in
+    let first = length-take (end - start) (drop start bytes) in
+    let left = length-drop start bytes in
+    let rest : length (joined (cut_from end ends bytes)) ≡ length bytes - end = omega arith in
+    rw (cut_joined end ends bytes h rest) (elim (cases_lt end start) [
+      | inl down ↦ (
+          let past : length bytes ≤ end = omega arith in
+          let none : end - start ≡ 0 = omega arith in
+          rw (none, drop_all end bytes past, drop_all start bytes (omega arith)) refl)
+      | inr up ↦ (
+          let whole : start + (end - start) ≡ end = omega arith in
+          let two : drop end bytes ≡ drop (end - start) (drop start bytes) = rw whole at (sym (drop-drop (end - start) start bytes)) in
+          rw two (take-append-drop (end - start) (drop start bytes)))
+    ])
+
+-- the fields of a record, where their ends fill the bytes that were added
+pub row_joined : (row : Row) (bytes bytes2 : List ℕ) (from to : ℕ) → partial_of row ≡ [] → bytes2 ≡ bytes ++ text_of row → from ≡ length bytes → to ≡ length bytes2
+    → from + length (joined (fields_of row)) ≡ to → joined (fields_of row) ≡ text_of row
+row_joined row bytes bytes2 from to p b f t e =
+    let none = ap length p in
+    let left = length-drop (last_end 0 row.ends) row.bytes in
+    let size : length bytes2 ≡ length bytes + length (text_of row) = ap length b ∙ length-append bytes (text_of row) in
+    cut_joined 0 row.ends row.bytes (omega arith) (omega arith)
+
+-- the fields of more places are the fields after those of the first
+cut-after : (start : ℕ) (ends more bytes : List ℕ) → cut_from start (ends ++ more) bytes ≡ cut_from start ends bytes ++ cut_from (last_end start ends) more bytes
+unfolding cut_from last_end
+cut-after start [] more bytes = refl
+cut-after start (end ∷ ends) more bytes = rw (cut-after end ends more bytes) refl
+
+last-after : (start : ℕ) (ends more : List ℕ) → last_end start (ends ++ more) ≡ last_end (last_end start ends) more
+unfolding last_end
+last-after start [] more = refl
+last-after start (end ∷ ends) more = last-after end ends more
+
+last-ends : (start : ℕ) (fields : Fields) → last_end start (ends_from start fields) ≡ start + length (joined fields)
+unfolding last_end joined ends_from
+last-ends start [] = omega arith
+last-ends start (f ∷ fs) =
+    let size = length-append f (joined fs) in
+    last-ends (start + length f) fs ∙ omega arith
+
+rising-ends : (start : ℕ) (fields : Fields) (size : ℕ) → start + length (joined fields) ≤ size → Rising start (ends_from start fields) size
+unfolding Rising joined ends_from
+rising-ends start [] size h = omega arith
+rising-ends start (f ∷ fs) size h =
+    let all = length-append f (joined fs) in
+    (omega arith, rising-ends (start + length f) fs size (omega arith))
+
+rising-after : (start : ℕ) (ends more : List ℕ) (size : ℕ) → Rising start ends size → Rising (last_end start ends) more size → Rising start (ends ++ more) size
+unfolding Rising last_end
+rising-after start [] more size h g = g
+rising-after start (end ∷ ends) more size h g = (h.0, rising-after end ends more size h.1 g)
+
+-- fields are cut from their bytes at their ends
+cut-ends : (front : List ℕ) (fields : Fields) → cut_from (length front) (ends_from (length front) fields) (front ++ joined fields) ≡ fields
+unfolding cut_from joined ends_from
+cut-ends front [] = refl
+cut-ends front (f ∷ fs) =
+    let size = length-append front f in
+    let here : drop (length front) (front ++ (f ++ joined fs)) ≡ f ++ joined fs = drop-append_seam front (f ++ joined fs) in
+    let width : length front + length f - length front ≡ length f = omega arith in
+    let assoc = append_assoc front f (joined fs) in
+    let next : cut_from (length front + length f) (ends_from (length front + length f) fs) (front ++ (f ++ joined fs)) ≡ fs =
+    rw (← size, ← assoc) (cut-ends (front ++ f) fs) in
+    rw (here, width, next, take-append_seam f (joined fs)) refl
+
+-- A record more.
+
+pub records_push : (bytes fields ends bytes2 fields2 ends2 text : List ℕ) (row : Fields) → Closed bytes fields ends → joined row ≡ text → bytes2 ≡ bytes ++ text → fields2 ≡ fields ++ ends_from (length bytes) row
+    → cut_from 0 fields2 bytes2 ≡ cut_from 0 fields bytes ++ row
+records_push bytes fields ends bytes2 fields2 ends2 text row h t b f =
+    rw (b, f, ← t, cut-after 0 fields (ends_from (length bytes) row) (bytes ++ joined row), cut-more 0 fields bytes (joined row) h.inside.fields, h.bytes, cut-ends bytes row) refl
+
+pub rows_push : (bytes fields ends bytes2 fields2 ends2 text : List ℕ) (row : Fields) → Closed bytes fields ends → joined row ≡ text → bytes2 ≡ bytes ++ text → fields2 ≡ fields ++ ends_from (length bytes) row
+    → ends2 ≡ ends ++ (length fields2 ∷ []) → groups 0 ends2 (cut_from 0 fields2 bytes2) ≡ groups 0 ends (cut_from 0 fields bytes) ++ (row ∷ [])
+rows_push bytes fields ends bytes2 fields2 ends2 text row h t b f e =
+    let all = records_push bytes fields ends bytes2 fields2 ends2 text row h t b f in
+    let size : length fields2 ≡ length (cut_from 0 fields bytes ++ row) = sym (cut-length 0 fields2 bytes2) ∙ ap length all in
+    rw (e, size, all) (groups-push ends (cut_from 0 fields bytes) row h.inside.records h.fields)
+
+pub closed_push : (bytes fields ends bytes2 fields2 ends2 text : List ℕ) (row : Fields) → Closed bytes fields ends → joined row ≡ text → bytes2 ≡ bytes ++ text → fields2 ≡ fields ++ ends_from (length bytes) row
+    → ends2 ≡ ends ++ (length fields2 ∷ []) → Closed bytes2 fields2 ends2
+closed_push bytes fields ends bytes2 fields2 ends2 text row h t b f e =
+    let all = records_push bytes fields ends bytes2 fields2 ends2 text row h t b f in
+    let count : length fields2 ≡ length (cut_from 0 fields2 bytes2) = sym (cut-length 0 fields2 bytes2) in
+    let size : length (cut_from 0 fields2 bytes2) ≡ length (cut_from 0 fields bytes) + length row = ap length all ∙ length-append (cut_from 0 fields bytes) row in
+    let low : length (cut_from 0 fields bytes) ≤ length (cut_from 0 fields2 bytes2) = omega arith in
+    let up = rising-more 0 ends (length (cut_from 0 fields bytes)) (length (cut_from 0 fields2 bytes2)) h.inside.records low in
+    let text_size : length bytes2 ≡ length bytes + length text = ap length b ∙ length-append bytes text in
+    let more : length bytes ≤ length bytes2 = omega arith in
+    let joined_size : length (joined row) ≡ length text = ap length t in
+    let last : last_end 0 fields2 ≡ length bytes + length (joined row) = rw f (last-after 0 fields (ends_from (length bytes) row) ∙ rw h.bytes (last-ends (length bytes) row)) in
+    let rising : Rising (last_end 0 fields) (ends_from (length bytes) row) (length bytes2) = rw h.bytes (rising-ends (length bytes) row (length bytes2) (omega arith)) in
     record {
-      rising = rw e (rising-end 0 ends (length (fields_of all2)) up);
-      last = rw e (last-append 0 ends (length (fields_of all2)));
-      partial = p;
+      inside = record {
+        fields = rw f (rising-after 0 fields (ends_from (length bytes) row) (length bytes2) (rising-more 0 fields (length bytes) (length bytes2) h.inside.fields more) rising);
+        records = rw (e, count) (rising-end 0 ends (length (cut_from 0 fields2 bytes2)) up);
+      };
+      bytes = last ∙ omega arith;
+      fields = rw (e, count) (last-append 0 ends (length (cut_from 0 fields2 bytes2)));
     }
 
 -- no record yet
-pub closed_start : (ends : List ℕ) (all : Row) → ends ≡ [] → fields_of all ≡ [] → partial_of all ≡ [] → Closed ends all
-unfolding Rising last_end
-closed_start ends all e f p = rw e (record { rising = omega arith; last = sym (ap length f); partial = p })
+pub closed_start : (bytes fields ends : List ℕ) → bytes ≡ [] → fields ≡ [] → ends ≡ [] → Closed bytes fields ends
+unfolding Rising last_end cut_from
+closed_start bytes fields ends b f e = rw (b, f, e) (record { inside = record { fields = omega arith; records = omega arith }; bytes = refl; fields = refl })
 
 pub groups_none : (fields : Fields) → groups 0 [] fields ≡ []
 unfolding groups
 groups_none fields = refl
+
+-- a place of a field is one of the places where fields end
+pub place_there : (bytes places : List ℕ) (place : ℕ) → place < length (cut_from 0 places bytes) → place < length places
+place_there bytes places place h = rw (cut-length 0 places bytes) at h
 
 -- a group is the fields between its start and its end
 group-cut : (start : ℕ) (ends : List ℕ) (fields : Fields) (i : ℕ) → i < length ends

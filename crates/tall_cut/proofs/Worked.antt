@@ -4,7 +4,7 @@ use Rattle.std.specs.Prelude.{codes}
 use Rattle.csv.specs.Machine.{next_record}
 use Rattle.csv.specs.Reading.{records_from, strip_bom}
 use Rattle.tall_cut.specs.Asked.{and_name, size_in}
-use Rattle.tall_cut.specs.Blocks.{groups}
+use Rattle.tall_cut.specs.Blocks.{ends_from, groups, joined}
 use Rattle.tall_cut.specs.Feed.{within_limit}
 use Rattle.tall_cut.specs.Rows.{file_records}
 
@@ -38,6 +38,15 @@ pub three_groups : groups 0 (1 ∷ 1 ∷ 4 ∷ []) (codes "a" ∷ codes "b" ∷ 
     ≡ (codes "a" ∷ []) ∷ [] ∷ (codes "b" ∷ codes "c" ∷ codes "d" ∷ []) ∷ []
 unfolding groups
 three_groups = refl
+
+-- three fields, one of them empty, one after the other from place 4
+pub three_fields : joined (codes "a" ∷ [] ∷ codes "bc" ∷ []) ≡ codes "abc"
+unfolding joined
+three_fields = refl
+
+pub three_ends : ends_from 4 (codes "a" ∷ [] ∷ codes "bc" ∷ []) ≡ 5 ∷ 5 ∷ 7 ∷ []
+unfolding ends_from
+three_ends = refl
 
 pub at_the_limit : within_limit 3 1 (Some (codes "ab")) ≡ Some (codes "ab")
 at_the_limit = refl

@@ -8,8 +8,8 @@ use Rattle.tall_cut.specs.declared.cutter.Next.{Next}
 use Rattle.tall_cut.specs.declared.cutter.Next.TheVariants as next
 use Rattle.tall_cut.specs.declared.cutter.ReadSize.{ReadSize}
 use Rattle.tall_cut.specs.declared.cutter.ReadSize.TheVariants as size
-use Rattle.tall_cut.specs.declared.gather.Progress.{Progress}
-use Rattle.tall_cut.specs.declared.gather.Progress.TheVariants as p
+use Rattle.tall_cut.specs.declared.reading.Progress.{Progress}
+use Rattle.tall_cut.specs.declared.reading.Progress.TheVariants as p
 use Rattle.tall_cut.specs.Rows.{Fields, NoneLeft, TakesMany}
 use Rattle.tall_cut.specs.Left.{reader_left}
 

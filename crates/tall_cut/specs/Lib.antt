@@ -3,5 +3,5 @@ pub mod Blocks
 pub mod Feed
 pub mod Left
 pub mod Asked
-pub mod Gather
+pub mod Reading
 pub mod Cuts

@@ -1,12 +1,13 @@
 //! Reading the records of a file in blocks.
 
 ghost use Rattle.std.specs.Prelude.{◌≡◌, ◌<◌, true};
-ghost use Rattle.tall_cut.specs.declared.gather.Progress.TheVariants.{Ended, Reading};
+ghost use Rattle.tall_cut.specs.declared.reading.Progress.TheVariants.{Ended, Reading};
 ghost use Rattle.tall_cut.specs.Rows.{IsCutting};
 ghost use Rattle.tall_cut.specs.Left.{is_at_end};
 
+use crate::block::Block;
 use crate::feed::{Feed, Lent, OpenedFile};
-use crate::gather::{Progress, gather, reader_of};
+use crate::reading::{Progress, read_records, reader_of};
 use crate::records::Records;
 use csv::{ByteRecord, Reader};
 use std::alloc::Global;
@@ -67,6 +68,8 @@ pub struct Cutter<'s, S: Shelf, K: OpenedFile> {
     reader: Reader<Feed<'s, S, K>>,
     // The record that was read last; its memory is used again for the next.
     row: ByteRecord,
+    // Blocks that were given back; their memory is used again for the next.
+    spare: Vec<Block>,
     rows: u64,
     progress: Progress,
     alloc: Global,
@@ -76,7 +79,7 @@ pub struct Cutter<'s, S: Shelf, K: OpenedFile> {
 }
 
 impl<'s, S: Shelf, K: OpenedFile> Cutter<'s, S, K> {
-    ghost use Rattle.std.specs.Prelude.{◌≤◌, IfSome, option_map};
+    ghost use Rattle.std.specs.Prelude.{◌≤◌, ◌↔◌, IfSome, option_map};
     ghost use Rattle.tall_outside.specs.Count.{Rose};
     ghost use Rattle.tall_cut.specs.Asked.{Returns};
     ghost use Rattle.tall_cut.specs.Rows.{file_records};
@@ -101,6 +104,7 @@ impl<'s, S: Shelf, K: OpenedFile> Cutter<'s, S, K> {
         Cutter {
             reader: reader_of(alloc, feed, delimiter),
             row: ByteRecord::new(alloc),
+            spare: Vec::new(alloc),
             rows: size.rows(),
             progress: Progress::Reading,
             alloc,
@@ -131,6 +135,19 @@ impl<'s, S: Shelf, K: OpenedFile> Cutter<'s, S, K> {
         self.cut(self.rows)
     }
 
+    /// Takes a block back, so that its memory is used again for a later one.
+    ///
+    /// No later answer depends on it. Where there is no memory to keep the block, it is freed.
+    pub fn give_back(&mut self, block: Records)
+        ensures left { cutter_left self.new ≡ cutter_left self.old }
+        ensures shelf { cutter_shelf self.new ≡ cutter_shelf self.old }
+        ensures rows { block_rows self.new ≡ block_rows self.old }
+        ensures ended { IsEnded self.old ↔ IsEnded self.new }
+        ensures stopped { IsStopped self.old ↔ IsStopped self.new }
+    {
+        let _ = self.spare.push(block.into_block());
+    }
+
     // The next so many records.
     fn cut(&mut self, rows: u64) -> Next
         requires { 0 < rows }
@@ -145,21 +162,18 @@ impl<'s, S: Shelf, K: OpenedFile> Cutter<'s, S, K> {
             Progress::Ended => return Next::End,
             Progress::Stopped => return Next::Stopped,
         }
-        let mut fields = ByteRecord::new(self.alloc);
-        let mut ends = Vec::new(self.alloc);
-        let progress = gather(
-            &mut self.reader,
-            &mut self.row,
-            &mut fields,
-            &mut ends,
-            rows,
-        );
+        let mut block = match self.spare.pop() {
+            Some(block) => block,
+            None => Block::new(self.alloc),
+        };
+        block.clear();
+        let progress = read_records(&mut self.reader, &mut self.row, &mut block, rows);
         self.progress = progress;
         match progress {
             Progress::Stopped => Next::Stopped,
-            Progress::Ended if ends.is_empty() => Next::End,
-            Progress::Ended => Next::Block(Records::of(fields, ends)),
-            Progress::Reading => Next::Block(Records::of(fields, ends)),
+            Progress::Ended if block.ends.is_empty() => Next::End,
+            Progress::Ended => Next::Block(Records::of(block)),
+            Progress::Reading => Next::Block(Records::of(block)),
         }
     }
 

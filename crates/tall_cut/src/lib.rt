@@ -2,10 +2,11 @@
 //! reads the feed's records with `csv`, as many at a time as its caller asked for.
 #![tactic(auto)]
 
+mod block;
 pub mod cutter;
 pub mod feed;
-mod gather;
 mod opening;
+mod reading;
 mod records;
 #[cfg(test)]
 mod tests;

@@ -15,13 +15,15 @@ use std::test::Fail;
 use tall_outside::{MemShelf, Shelf, has_distinct_names};
 
 /// How a test reads its file.
-#[derive(Clone, Copy)]
+#[derive(Clone, Copy, Debug)]
 struct Plan {
     delimiter: u8,
     limit: u64,
     size: ReadSize,
     /// Whether every other record is asked for alone.
     alone: bool,
+    /// Whether blocks are given back.
+    given_back: bool,
 }
 
 /// Blocks of all rows of a file of any length.
@@ -30,6 +32,7 @@ const WHOLE: Plan = Plan {
     limit: 1 << 50,
     size: ReadSize::File,
     alone: false,
+    given_back: false,
 };
 
 /// Writes each record as a line of its fields in brackets.
@@ -46,12 +49,16 @@ fn write_records(text: &mut String, block: &Records) -> Result<(), AllocError> {
 /// Writes the records of an answer, or its word. Tells whether there may be more.
 fn write_answer<'s, S: Shelf, K: OpenedFile>(
     text: &mut String,
-    cutter: &Cutter<'s, S, K>,
+    cutter: &mut Cutter<'s, S, K>,
     answer: Next,
+    given_back: bool,
 ) -> Result<bool, AllocError> {
     match answer {
         Next::Block(block) => {
             write_records(text, &block)?;
+            if given_back {
+                cutter.give_back(block);
+            }
             return Ok(true);
         }
         Next::End => write!(text, "end ")?,
@@ -68,22 +75,22 @@ fn write_answer<'s, S: Shelf, K: OpenedFile>(
 fn write_all<'s, S: Shelf, K: OpenedFile>(
     text: &mut String,
     cutter: &mut Cutter<'s, S, K>,
-    alone: bool,
+    plan: Plan,
 ) -> Result<(), AllocError> {
     for turn in 0..100u32 {
-        let answer = if alone && turn % 2 == 0 {
+        let answer = if plan.alone && turn % 2 == 0 {
             cutter.first_record()
         } else {
             cutter.next_block()
         };
-        if !write_answer(text, cutter, answer)? {
+        if !write_answer(text, cutter, answer, plan.given_back)? {
             break;
         }
     }
     let answer = cutter.first_record();
-    write_answer(text, cutter, answer)?;
+    write_answer(text, cutter, answer, false)?;
     let answer = cutter.next_block();
-    write_answer(text, cutter, answer)?;
+    write_answer(text, cutter, answer, false)?;
     Ok(())
 }
 
@@ -102,7 +109,7 @@ fn write_file<'s, S: Shelf, K: OpenedFile>(
     match open_feed::<S, K>(lent, name.as_str(), limit) {
         Ok(feed) => {
             let mut cutter: Cutter<'s, S, K> = Cutter::new(alloc, feed, plan.delimiter, plan.size);
-            let _ = write_all(text, &mut cutter, plan.alone);
+            let _ = write_all(text, &mut cutter, plan);
             cutter.into_lent()
         }
         Err(refused) => {
@@ -117,11 +124,23 @@ fn write_file<'s, S: Shelf, K: OpenedFile>(
     }
 }
 
-/// The records of a file of this shelf, as text.
-fn text_of<S: Shelf>(alloc: Global, shelf: &mut S, name: &String, plan: Plan) -> String
-    requires { 0 < rows_of plan.size }
+/// A size of at least one row.
+fn some_rows(size: ReadSize) -> ReadSize
+    ensures { 0 < rows_of result }
 {
+    match size {
+        ReadSize::Rows(rows) => ReadSize::Rows(rows.max(1)),
+        ReadSize::File => ReadSize::File,
+    }
+}
+
+/// The records of a file of this shelf, as text.
+fn text_of<S: Shelf>(alloc: Global, shelf: &mut S, name: &String, plan: Plan) -> String {
     let mut text = String::new(alloc);
+    let plan = Plan {
+        size: some_rows(plan.size),
+        ..plan
+    };
     let _lent = write_file::<S, Brand>(alloc, Lent { shelf }, name, plan.limit, plan, &mut text);
     text
 }
@@ -168,33 +187,115 @@ const FILES: [(&[u8], &str); 20] = [
     ),
 ];
 
+const SIZES: [ReadSize; 5] = [
+    ReadSize::Rows(1),
+    ReadSize::Rows(2),
+    ReadSize::Rows(3),
+    ReadSize::Rows(7),
+    ReadSize::File,
+];
+
+/// Each size of a block, with and without records that are asked for alone, with and without blocks given back.
+fn plans(alloc: Global) -> Result<Vec<Plan>, AllocError> {
+    let mut plans = Vec::new(alloc);
+    for size in SIZES {
+        for (alone, given_back) in [(false, false), (false, true), (true, false), (true, true)] {
+            plans.push(Plan {
+                size,
+                alone,
+                given_back,
+                ..WHOLE
+            })?;
+        }
+    }
+    Ok(plans)
+}
+
 #[test]
 fn blocks_joined_are_the_records(rt: HostRuntime) -> Result<(), Fail> {
     let name = String::from_str(rt.alloc(), "a.csv")?;
-    let sizes = [
-        ReadSize::Rows(1),
-        ReadSize::Rows(2),
-        ReadSize::Rows(3),
-        ReadSize::Rows(7),
-        ReadSize::File,
-    ];
+    let plans = plans(rt.alloc())?;
     for (bytes, records) in FILES {
         let wanted = format!(in rt.alloc(); "{records}end end end ")?;
-        for size in sizes {
+        for plan in plans.iter() {
             for at_most in [1, 2, 5, usize::MAX] {
-                for alone in [false, true] {
+                let mut shelf = shelf_of(&rt, rt.alloc(), bytes, at_most)?;
+                let text = text_of(rt.alloc(), &mut shelf, &name, *plan);
+                assert_eq!(rt;
+                    text.as_str(),
+                    wanted.as_str(),
+                    "{plan:?}, {at_most} a read"
+                );
+            }
+        }
+    }
+    Ok(())
+}
+
+#[test]
+fn any_other_ascii_byte_stands_between_fields(rt: HostRuntime) -> Result<(), Fail> {
+    let name = String::from_str(rt.alloc(), "a.csv")?;
+    for delimiter in 0..128u8 {
+        if matches!(delimiter, b'"' | b'\r' | b'\n') {
+            continue;
+        }
+        let d = delimiter as char;
+        let (x, y) = if d == 'x' || d == 'y' {
+            ('X', 'Y')
+        } else {
+            ('x', 'y')
+        };
+        let file = format!(in rt.alloc(); "{x}{d}\"{x}{d}{y}\"{d}\n{d}{y}")?;
+        let wanted = format!(in rt.alloc(); "[{x}][{x}{d}{y}][]\n[][{y}]\nend end end ")?;
+        let mut shelf = shelf_of(&rt, rt.alloc(), file.as_bytes(), usize::MAX)?;
+        let text = text_of(rt.alloc(), &mut shelf, &name, Plan { delimiter, ..WHOLE });
+        assert_eq!(rt; text.as_str(), wanted.as_str(), "byte {delimiter}");
+    }
+    Ok(())
+}
+
+/// Asserts that a text is a front of these records, and that the cutter then stopped for good, for a cause of this word.
+fn assert_stopped(
+    rt: &impl Abort,
+    alloc: Global,
+    text: &str,
+    records: &str,
+    cause: &str,
+) -> Result<(), Fail> {
+    let thrice = format!(in alloc; "{cause} {cause} {cause} ")?;
+    let given = text.strip_suffix(thrice.as_str());
+    let front = given.ok_or("the cutter went on")?;
+    assert!(rt; records.starts_with(front), "{front:?} of {records:?}");
+    Ok(())
+}
+
+#[test]
+fn more_bytes_than_the_limit_are_too_large(rt: HostRuntime) -> Result<(), Fail> {
+    let name = String::from_str(rt.alloc(), "a.csv")?;
+    for (bytes, records) in FILES {
+        let length = bytes.len() as u64;
+        let wanted = format!(in rt.alloc(); "{records}end end end ")?;
+        for size in SIZES {
+            for at_most in [1, 2, 5, usize::MAX] {
+                for limit in [length, length.saturating_add(1)] {
                     let mut shelf = shelf_of(&rt, rt.alloc(), bytes, at_most)?;
                     let plan = Plan {
+                        limit,
                         size,
-                        alone,
                         ..WHOLE
                     };
                     let text = text_of(rt.alloc(), &mut shelf, &name, plan);
-                    assert_eq!(rt;
-                        text.as_str(),
-                        wanted.as_str(),
-                        "{size:?}, {at_most} a read"
-                    );
+                    assert_eq!(rt; text.as_str(), wanted.as_str());
+                }
+                if let Some(limit) = length.checked_sub(1) {
+                    let mut shelf = shelf_of(&rt, rt.alloc(), bytes, at_most)?;
+                    let plan = Plan {
+                        limit,
+                        size,
+                        ..WHOLE
+                    };
+                    let text = text_of(rt.alloc(), &mut shelf, &name, plan);
+                    assert_stopped(&rt, rt.alloc(), text.as_str(), records, "too large")?;
                 }
             }
         }
@@ -203,62 +304,46 @@ fn blocks_joined_are_the_records(rt: HostRuntime) -> Result<(), Fail> {
 }
 
 #[test]
-fn another_delimiter_stands_between_fields(rt: HostRuntime) -> Result<(), Fail> {
+fn records_before_the_limit_are_given(rt: HostRuntime) -> Result<(), Fail> {
     let name = String::from_str(rt.alloc(), "a.csv")?;
-    for (delimiter, bytes, records) in [
-        (
-            b';',
-            b"a;b,c\n\"d;e\";f\n".as_slice(),
-            "[a][b,c]\n[d;e][f]\n",
-        ),
-        (b'\t', b"a\tb \n\t\n".as_slice(), "[a][b ]\n[][]\n"),
-    ] {
-        let mut shelf = shelf_of(&rt, rt.alloc(), bytes, usize::MAX)?;
-        let text = text_of(rt.alloc(), &mut shelf, &name, Plan { delimiter, ..WHOLE });
-        let wanted = format!(in rt.alloc(); "{records}end end end ")?;
-        assert_eq!(rt; text.as_str(), wanted.as_str());
-    }
+    let mut shelf = shelf_of(&rt, rt.alloc(), b"x\n1\n", 1)?;
+    let plan = Plan {
+        limit: 3,
+        size: ReadSize::Rows(1),
+        ..WHOLE
+    };
+    let text = text_of(rt.alloc(), &mut shelf, &name, plan);
+    assert_eq!(rt; text.as_str(), "[x]\ntoo large too large too large ");
     Ok(())
 }
 
 #[test]
-fn more_bytes_than_the_limit_are_too_large(rt: HostRuntime) -> Result<(), Fail> {
+fn each_failing_read_stops_the_cutter_for_good(rt: HostRuntime) -> Result<(), Fail> {
     let name = String::from_str(rt.alloc(), "a.csv")?;
-    for (limit, at_most, wanted) in [
-        (3, usize::MAX, "too large too large too large "),
-        (3, 1, "[x]\ntoo large too large too large "),
-        (4, usize::MAX, "[x]\n[1]\nend end end "),
-        (4, 1, "[x]\n[1]\nend end end "),
-        (5, usize::MAX, "[x]\n[1]\nend end end "),
-        (0, usize::MAX, "too large too large too large "),
-    ] {
-        let mut shelf = shelf_of(&rt, rt.alloc(), b"x\n1\n", at_most)?;
-        let plan = Plan {
-            limit,
-            size: ReadSize::Rows(1),
-            ..WHOLE
-        };
-        let text = text_of(rt.alloc(), &mut shelf, &name, plan);
-        assert_eq!(rt; text.as_str(), wanted, "limit {limit}, {at_most} a read");
-    }
-    Ok(())
-}
-
-#[test]
-fn each_failing_call_stops_the_cutter_for_good(rt: HostRuntime) -> Result<(), Fail> {
-    let name = String::from_str(rt.alloc(), "a.csv")?;
-    let records = "[x]\n[1]\n[2]\n";
-    for call in 1..=7u64 {
-        for size in [ReadSize::Rows(1), ReadSize::Rows(2), ReadSize::File] {
-            let mut shelf = shelf_of(&rt, rt.alloc(), b"x\n1\n2\n", 1)?;
-            shelf.fail_read(call)?;
-            let text = text_of(rt.alloc(), &mut shelf, &name, Plan { size, ..WHOLE });
-            assert_eq!(rt; shelf.faults(), 1);
-            let given = text.as_str().strip_suffix("failed failed failed ");
-            let front = given.ok_or("the cutter went on")?;
-            assert!(rt; records.starts_with(front), "{front:?} at read {call}");
+    for (bytes, records) in FILES {
+        for (at_most, size) in [
+            (1, ReadSize::Rows(1)),
+            (1, ReadSize::Rows(2)),
+            (1, ReadSize::File),
+            (5, ReadSize::Rows(1)),
+        ] {
+            let mut whole = shelf_of(&rt, rt.alloc(), bytes, at_most)?;
+            let _text = text_of(rt.alloc(), &mut whole, &name, Plan { size, ..WHOLE });
+            for call in 1..whole.reads().saturating_add(1) {
+                let mut shelf = shelf_of(&rt, rt.alloc(), bytes, at_most)?;
+                shelf.fail_read(call)?;
+                let text = text_of(rt.alloc(), &mut shelf, &name, Plan { size, ..WHOLE });
+                assert_eq!(rt; shelf.faults(), 1);
+                assert_stopped(&rt, rt.alloc(), text.as_str(), records, "failed")?;
+            }
         }
     }
+    Ok(())
+}
+
+#[test]
+fn a_failing_open_is_told(rt: HostRuntime) -> Result<(), Fail> {
+    let name = String::from_str(rt.alloc(), "a.csv")?;
     let mut shelf = shelf_of(&rt, rt.alloc(), b"x\n1\n2\n", 1)?;
     shelf.fail_open(1)?;
     assert_eq!(rt;

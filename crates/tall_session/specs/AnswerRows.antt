@@ -1,5 +1,5 @@
 -- Worked answers, from the bytes of the files: sums as outcomes, and refusals with their lines.
-use Rattle.std.specs.Prelude.{List, ℕ, ◌≡◌, [], ◌∷◌, ◌++◌, refl, codes, pos, negsuc}
+use Rattle.std.specs.Prelude.{List, ℕ, ◌≡◌, [], ◌∷◌, refl, codes, pos, negsuc}
 use Rattle.csv.proofs.OnLiterals.{csv_on_literals}
 use Rattle.tall_outside.specs.Shelf.{Files}
 use Rattle.tall_session.specs.FirstScript.{first_script}

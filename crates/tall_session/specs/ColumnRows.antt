@@ -1,5 +1,5 @@
 -- Worked values of the native sum.
-use Rattle.std.specs.Prelude.{List, ℕ, ◌≡◌, Ok, Err, [], ◌∷◌, pos, negsuc, refl, codes}
+use Rattle.std.specs.Prelude.{◌≡◌, Ok, Err, [], ◌∷◌, pos, negsuc, refl, codes}
 use Rattle.tall_session.specs.Column.{native_sum}
 use Rattle.tall_session.specs.declared.column.ColumnFault.TheVariants.{NotBuilt, NotANumber}
 

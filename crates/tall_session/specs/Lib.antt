@@ -3,6 +3,8 @@ pub mod Status
 pub mod Answer
 pub mod Column
 pub mod ColumnRows
+pub mod Openings
+pub mod OpeningsRows
 pub mod Evaluation
 pub mod Counts
 pub mod AnswerRows

@@ -5,6 +5,7 @@ ghost use Rattle.tall_outside.specs.Shelf.{file_in};
 ghost use Rattle.tall_session.specs.FirstScript.{data_name};
 ghost use Rattle.tall_session.specs.Column.{native_sum, sum_from};
 ghost use Rattle.tall_session.specs.Evaluation.{Agrees, IsExplained, IsSum, Prints, WithinLimit, command, data_outcome, outcome_of, script_outcome, sum_outcome};
+ghost use Rattle.tall_session.specs.Openings.{OpensInTurn, OpensOnce, RunOpens};
 ghost use Rattle.tall_session.specs.Counts.{opening_counts, shelf_counts};
 ghost use Rattle.tall_cut.specs.Feed.{counted};
 ghost use Rattle.tall_cut.specs.Asked.{Asks, Returns};
@@ -98,6 +99,7 @@ fn sum_blocks<'s, S: Shelf, K: OpenedFile>(cutter: &mut Cutter<'s, S, K>) -> Out
             Ok(clamp) => sum = clamp.apply(sum),
             Err(fault) => return outcome_of_fault(fault),
         }
+        cutter.give_back(block);
         row = next_row;
     }
     // No file that the limit lets through has so many blocks, or rows.
@@ -105,6 +107,7 @@ fn sum_blocks<'s, S: Shelf, K: OpenedFile>(cutter: &mut Cutter<'s, S, K>) -> Out
 }
 
 /// What the data file of a lent shelf comes to; the shelf comes back.
+#[tactic(auto, using(crate::proofs::Openings::asked_once, crate::proofs::Openings::logs_once))]
 fn sum_file<'s, S: Shelf, K: OpenedFile>(
     alloc: Global,
     lent: Lent<'s, S>,
@@ -112,6 +115,7 @@ fn sum_file<'s, S: Shelf, K: OpenedFile>(
 ) -> Lent<'s, S>
     requires { Asks S.Shelf K.OpenedFile lent.shelf.ghost_name lent.shelf.now data_name (2 ^ 50) }
     ensures returns { (Some result.shelf.ghost_name ≡ K.lender) × (S.held result.shelf.now ≡ K.held) }
+    ensures opens { OpensOnce data_name (S.opened lent.entry.shelf.now) (S.opened result.shelf.now) }
     ensures told { IfSome K.held (λ files. WithinLimit files → Agrees outcome.new (data_outcome (file_in files data_name))) }
     ensures printed { IfSome K.held (λ files. Prints outcome.new (data_outcome (file_in files data_name))) }
     ensures explained { IsExplained outcome.new (opening_counts K.OpenedFile) (shelf_counts S.Shelf result.shelf.now) }
@@ -137,6 +141,8 @@ fn sum_file<'s, S: Shelf, K: OpenedFile>(
 
 /// What the data file of a shelf comes to.
 fn evaluate_data<S: Shelf>(alloc: Global, shelf: &mut S) -> Outcome
+    ensures held { S.held shelf.new ≡ S.held shelf.old }
+    ensures opens { OpensOnce data_name (S.opened shelf.old) (S.opened shelf.new) }
     ensures told { IfSome (S.held shelf.old) (λ files. WithinLimit files → Agrees result (data_outcome (file_in files data_name))) }
     ensures printed { IfSome (S.held shelf.old) (λ files. Prints result (data_outcome (file_in files data_name))) }
     ensures explained { IsExplained result (shelf_counts S.Shelf shelf.old) (shelf_counts S.Shelf shelf.new) }
@@ -149,7 +155,10 @@ fn evaluate_data<S: Shelf>(alloc: Global, shelf: &mut S) -> Outcome
 }
 
 /// What the script of this name comes to.
+#[tactic(auto, using(crate::proofs::Openings::script_opens, crate::proofs::Openings::data_opens))]
 fn evaluate_script<S: Shelf>(alloc: Global, name: &str, shelf: &mut S) -> Outcome
+    ensures held { S.held shelf.new ≡ S.held shelf.old }
+    ensures opens { OpensInTurn name.now (S.opened shelf.old) (S.opened shelf.new) }
     ensures told { IfSome (S.held shelf.old) (λ files. WithinLimit files → Agrees result (script_outcome files (file_in files name.now))) }
     ensures printed { IfSome (S.held shelf.old) (λ files. Prints result (script_outcome files (file_in files name.now))) }
     ensures explained { IsExplained result (shelf_counts S.Shelf shelf.old) (shelf_counts S.Shelf shelf.new) }
@@ -174,7 +183,10 @@ fn evaluate_script<S: Shelf>(alloc: Global, name: &str, shelf: &mut S) -> Outcom
 }
 
 /// What the words come to over the files of a shelf.
+#[tactic(auto, using(crate::proofs::Openings::adds_none))]
 pub fn evaluate<S: Shelf>(alloc: Global, words: &[String], shelf: &mut S) -> Outcome
+    ensures held { S.held shelf.new ≡ S.held shelf.old }
+    ensures opens { RunOpens (command (map (λ word. string_bytes word) words.now)) (S.opened shelf.old) (S.opened shelf.new) }
     ensures told { IfSome (S.held shelf.old) (λ files. WithinLimit files → Agrees result (outcome_of files (map (λ word. string_bytes word) words.now))) }
     ensures printed { IfSome (S.held shelf.old) (λ files. Prints result (outcome_of files (map (λ word. string_bytes word) words.now))) }
     ensures explained { IsExplained result (shelf_counts S.Shelf shelf.old) (shelf_counts S.Shelf shelf.new) }

@@ -5,6 +5,7 @@ ghost use Rattle.std.specs.Io.KnownBytes.{Appends};
 ghost use Rattle.tall_outside.specs.Count.{Rose};
 ghost use Rattle.tall_session.specs.Answer.{IsSettled, Shows, ShowsAll, cannot_write, shown};
 ghost use Rattle.tall_session.specs.Counts.{shelf_counts};
+ghost use Rattle.tall_session.specs.Openings.{RunOpens};
 ghost use Rattle.tall_session.specs.Evaluation.{IsExplained, WithinLimit, answer, command, script_name};
 
 use crate::evaluate::evaluate;
@@ -57,6 +58,10 @@ pub fn run<R: Threads + Sync, S: Shelf + Send, O: Sink, E: Sink, G: Gate + Sync>
         × Shows (shown (script_name (map (λ word. string_bytes word) words.now)) outcome) result
         (record { text = O.written out.old; line = E.written err.old }) (record { text = O.written out.new; line = E.written err.new })
         × IsExplained outcome (shelf_counts S.Shelf shelf.old) (shelf_counts S.Shelf shelf.new) }
+
+    // No file changes, and none is opened but the script and then the data file, each once at most.
+    ensures held { S.held shelf.new ≡ S.held shelf.old }
+    ensures opens { RunOpens (command (map (λ word. string_bytes word) words.now)) (S.opened shelf.old) (S.opened shelf.new) }
     ensures read { (result ≡ Status.Read) → Rose (S.faults shelf.old) (S.faults shelf.new) ⊎ (2 ^ 50 < S.came shelf.new) }
     ensures write { (result ≡ Status.Write) → Rose (O.faults out.old) (O.faults out.new) ⊎ Rose (E.faults err.old) (E.faults err.new) }
     ensures told { (result ≡ Status.Write) → Rose (E.faults err.old) (E.faults err.new) ⊎ Appends (E.written err.old) (E.written err.new) cannot_write }

@@ -23,6 +23,7 @@ pub fn is_first_script(bytes: &[u8]) -> bool
 /// Answers how many bytes it put at the buffer's front; fewer than the buffer has only at the end of the file.
 pub fn read_front<S: Shelf>(shelf: &mut S, buf: &mut [u8]) -> Result<usize, Failed>
     ensures held { S.held shelf.new ≡ S.held shelf.old }
+    ensures opened { S.opened shelf.new ≡ S.opened shelf.old }
     ensures faults { RisesIf (is_err result) (S.faults shelf.old) (S.faults shelf.new) }
     ensures misses { S.misses shelf.new ≡ S.misses shelf.old }
     ensures bound { IfOk result (λ n. n ≤ length buf.new) }

@@ -1,4 +1,4 @@
-use Rattle.std.proofs.Common.{rules, arith, ◌≡◌, ◌<◌, length, take, length-take-le, true, subst, ◌∙◌}
+use Rattle.std.proofs.Common.{rules, arith, ◌≡◌, length, take, length-take-le, true, subst, ◌∙◌}
 use Rattle.std.specs.Prelude.{IfSome}
 use Rattle.tall_outside.specs.Shelf.{file_in}
 use Rattle.tall_session.specs.FirstScript.{data_name, is_first_script}

@@ -18,9 +18,10 @@ loop-turn-preserved g c =
     let below : to_z w16 c.loop-turn.sum-bits ≤ℤ pos 32767 = search rules in
     let kept : to_z w16 (of_z w16 c.apply-sum.result) ≡ c.apply-sum.result = search rules in
     let rows : c.loop-turn.row + length c.in-Block.block ≡ c.in-Some.next_row = search rules in
-    subst (λ r. Follows (cutter_left c.args.cutter.now) (cutter_left c.next_block.new.self) (to_z w16 (of_z w16 c.apply-sum.result)) r) rows
+    subst (λ left. Follows (cutter_left c.args.cutter.now) left (to_z w16 (of_z w16 c.apply-sum.result)) c.in-Some.next_row) (sym c.give_back.ensures.left)
+    (subst (λ r. Follows (cutter_left c.args.cutter.now) (cutter_left c.next_block.new.self) (to_z w16 (of_z w16 c.apply-sum.result)) r) rows
     (follows_step _ _ _ c.in-Block.block _ _ _ c.loop-turn.invariant c.in-Block.ensures.cuts.2
-    (sym (c.in-Ok.ensures _ above below) ∙ ap Ok (sym c.apply-sum.ensures) ∙ ap Ok (sym kept)))
+    (sym (c.in-Ok.ensures _ above below) ∙ ap Ok (sym c.apply-sum.ensures) ∙ ap Ok (sym kept))))
 
 pub returns-in-End-clause-told : goal.returns-in-End-clause-told
 returns-in-End-clause-told g c = agrees_sum _ (sum_from (pos 0) 1) _ (follows_end _ _ _ _ c.loop-turn.invariant c.in-End.ensures.cuts.0)

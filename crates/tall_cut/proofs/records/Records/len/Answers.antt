@@ -1,7 +1,7 @@
 use Rattle.std.proofs.Common.{◌∙◌, sym}
-use Rattle.csv.specs.Records.{fields_of}
+use Rattle.tall_cut.specs.Blocks.{block_fields}
 use Rattle.tall_cut.proofs.Blocks.{groups_length}
 use Rattle.tall_cut.proofs.records.Records.len.Goals as goal
 
 pub returns : goal.returns
-returns c = rw (← c.self.view_is) (c.len.ensures ∙ c.self.inside.ends.ok.0 ∙ sym (groups_length 0 c.self.inside.ends.items (fields_of c.self.inside.fields)))
+returns c = rw (← c.self.view_is) (c.len.ensures ∙ c.self.inside.block.ends.ok.0 ∙ sym (groups_length 0 c.self.inside.block.ends.items (block_fields c.self.inside.block)))

@@ -7,11 +7,11 @@ start_of-requires c = place_inside _ _ _ _ c.self.view_is c.requires
 pub index-requires : goal.index-requires
 index-requires c =
     let inside = place_inside _ _ _ _ c.self.view_is c.requires in
-    rw c.self.inside.ends.ok.0 inside
+    rw c.self.inside.block.ends.ok.0 inside
 
 pub overflow_sub-result : goal.overflow_sub-result
 overflow_sub-result c =
-    rw (c.start_of.ensures, c.index.ensures) (width_low _ _ _ _ _ c.self.view_is c.self.invariant c.requires)
+    rw (c.start_of.ensures, c.index.ensures) (width_low _ _ _ _ _ c.self.view_is c.self.invariant.records c.requires)
 
 pub returns : goal.returns
-returns c = rw (c.start_of.ensures, c.index.ensures) (width_is _ _ _ _ _ c.self.view_is c.self.invariant c.requires)
+returns c = rw (c.start_of.ensures, c.index.ensures) (width_is _ _ _ _ _ c.self.view_is c.self.invariant.records c.requires)

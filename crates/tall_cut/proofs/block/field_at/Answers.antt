@@ -1,6 +1,6 @@
 use Rattle.std.proofs.Common.{sym}
 use Rattle.csv.proofs.RecordFacts.{field-get, field-there}
-use Rattle.tall_cut.proofs.records.field_at.Goals as goal
+use Rattle.tall_cut.proofs.block.field_at.Goals as goal
 
 pub unreachable-requires : goal.unreachable-requires
 unreachable-requires c =

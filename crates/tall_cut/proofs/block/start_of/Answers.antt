@@ -1,6 +1,6 @@
 use Rattle.std.proofs.Common.{◌≡◌, ◌<◌, ◌+◌, ◌-◌, ◌∙◌, sym, arith, length}
 use Rattle.csv.proofs.RecordFacts.{prev-first, prev-next}
-use Rattle.tall_cut.proofs.records.start_of.Goals as goal
+use Rattle.tall_cut.proofs.block.start_of.Goals as goal
 
 pub returns-then-i-eq0 : goal.returns-then-i-eq0
 returns-then-i-eq0 c = rw c.if-i-eq0.true (sym (prev-first _))

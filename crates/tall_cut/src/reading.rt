@@ -4,12 +4,12 @@ ghost use Rattle.std.specs.Prelude.{◌≡◌, [], option_map, true};
 ghost use Rattle.csv.specs.Records.{fields_of};
 ghost use Rattle.csv.specs.Reading.{reader_source};
 ghost use Rattle.tall_cut.specs.Rows.{IsCutting, file_records};
-ghost use Rattle.tall_cut.specs.Blocks.{Closed};
+ghost use Rattle.tall_cut.specs.Blocks.{IsClosed};
 ghost use Rattle.tall_cut.specs.Left.{feed_left, is_at_end, reader_left};
-ghost use Rattle.tall_cut.specs.Gather.{Gathers, TakesRow};
+ghost use Rattle.tall_cut.specs.Reading.{TakesRows, TakesRow};
 
+use crate::block::Block;
 use crate::feed::{Feed, OpenedFile};
-use crate::records::add;
 use csv::{ByteRecord, Reader, ReaderBuilder};
 use std::alloc::Global;
 use tall_outside::Shelf;
@@ -69,24 +69,23 @@ fn read_row<'s, S: Shelf, K: OpenedFile>(
 
 // Reads so many records, fewer only where the file ends, and adds them to the block.
 #[tactic(auto, using(crate::proofs::Rows::many_start, crate::proofs::Rows::many_rows, crate::proofs::Rows::many_end, crate::proofs::Blocks::groups_none))]
-pub(crate) fn gather<'s, S: Shelf, K: OpenedFile>(
+pub(crate) fn read_records<'s, S: Shelf, K: OpenedFile>(
     reader: &mut Reader<Feed<'s, S, K>>,
     row: &mut ByteRecord,
-    fields: &mut ByteRecord,
-    ends: &mut Vec<usize>,
+    block: &mut Block,
     rows: u64,
 ) -> Progress
     requires cutting { IsCutting reader.old }
-    requires none { ends.old.items ≡ [] }
-    requires closed { Closed ends.old.items fields.old }
-    ensures gathers { Gathers result rows (reader_left reader.old) ends.new.items fields.new (reader_left reader.new) }
+    requires none { block.old.ends.items ≡ [] }
+    requires closed { IsClosed block.old }
+    ensures takes { TakesRows result rows (reader_left reader.old) block.new (reader_left reader.new) }
     ensures ready { result ≡ Progress.Reading → IsCutting reader.new }
     ensures end { result ≡ Progress.Ended → is_at_end reader.new ≡ true }
 {
     for _taken in 0..rows {
         match read_row(reader, row) {
             Progress::Reading => {
-                if add(fields, ends, row).is_err() {
+                if block.add(row).is_err() {
                     return Progress::Stopped;
                 }
             }

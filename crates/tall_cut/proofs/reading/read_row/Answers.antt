@@ -1,7 +1,7 @@
 use Rattle.csv.specs.Records.{fields_of}
 use Rattle.tall_cut.proofs.Rows.{cutting_ready, read_ends, read_takes}
 use Rattle.tall_cut.specs.Left.{feed_left}
-use Rattle.tall_cut.proofs.gather.read_row.Goals as goal
+use Rattle.tall_cut.proofs.reading.read_row.Goals as goal
 
 pub returns-in-Ok-true-clause-takes : goal.returns-in-Ok-true-clause-takes
 returns-in-Ok-true-clause-takes g c =

@@ -1,0 +1,55 @@
+-- From the answers of a shelf to the names that a run opened.
+use Rattle.std.proofs.Common.{◌≡◌, ◌∙◌, ◌++◌, ◌∷◌, [], ℕ, List, Option, Some, None, refl, sym, ap, subst, inl, inr}
+use Rattle.std.proofs.lemmas.List.{append-nil, append_assoc}
+use Rattle.tall_outside.specs.Shelf.{Logs}
+use Rattle.tall_outside.specs.declared.shelf.Opening.{Opening}
+use Rattle.tall_outside.specs.declared.shelf.Opening.TheVariants as o
+use Rattle.tall_cut.specs.Asked.{and_name}
+use Rattle.tall_session.specs.FirstScript.{data_name}
+use Rattle.tall_session.specs.Openings.{Adds, OpensInTurn, OpensOnce}
+
+abbrev Names : Type 0
+Names = List (List ℕ)
+
+-- no call, no name
+pub adds_none : (before now : Option Names) → now ≡ before → Adds [] before now
+adds_none before now e = subst (λ n. Adds [] before n) (sym e) (by before)
+  where
+    by : (names : Option Names) → Adds [] names names
+    by None = tt
+    by (Some names) = sym (append-nil names)
+
+-- a call of `open`
+pub logs_once : (before now : Option Names) (name : List ℕ) (answer : Opening) → Logs before now name answer → OpensOnce name before now
+logs_once None now name answer h = inl tt
+logs_once (Some names) None name answer h = absurd h
+logs_once (Some names) (Some all) name o.Opened h = inr h
+logs_once (Some names) (Some all) name o.NoSuch h = inr h
+logs_once (Some names) (Some all) name o.Failed h = inr h
+logs_once (Some names) (Some all) name o.Memory (inl h) = inl (h ∙ sym (append-nil names))
+logs_once (Some names) (Some all) name o.Memory (inr h) = inr h
+
+-- an opening that was asked for, and whose shelf came back
+pub asked_once : (before asked now : Option Names) (name : List ℕ) → and_name before name ≡ asked → ((names : Names) → asked ≡ Some names → now ≡ Some names) → OpensOnce name before now
+asked_once None asked now name e h = inl tt
+asked_once (Some names) asked now name e h = subst (λ n. OpensOnce name (Some names) n) (sym (h (names ++ name ∷ []) (sym e))) (inr refl)
+
+-- the script alone
+pub script_opens : (before now after : Option Names) (script : List ℕ) (answer : Opening) → Logs before now script answer → after ≡ now → OpensInTurn script before after
+script_opens before now after script answer h e = subst (λ n. OpensInTurn script before n) (sym e) (by (logs_once before now script answer h))
+  where
+    by : OpensOnce script before now → OpensInTurn script before now
+    by (inl none) = inl none
+    by (inr one) = inr (inl one)
+
+-- the script, and then the data file or not
+pub data_opens : (before now after last : Option Names) (script : List ℕ) → Logs before now script o.Opened → after ≡ now → OpensOnce data_name after last → OpensInTurn script before last
+data_opens before now after last script h e g = by before now last h (subst (λ n. OpensOnce data_name n last) e g)
+  where
+    by : (before2 now2 last2 : Option Names) → Logs before2 now2 script o.Opened → OpensOnce data_name now2 last2 → OpensInTurn script before2 last2
+    by None now2 last2 l d = inl tt
+    by (Some names) None last2 l d = absurd l
+    by (Some names) (Some some) None l (inl d) = absurd d
+    by (Some names) (Some some) None l (inr d) = absurd d
+    by (Some names) (Some some) (Some all) l (inl d) = inr (inl (d ∙ append-nil some ∙ l))
+    by (Some names) (Some some) (Some all) l (inr d) = inr (inr (d ∙ ap (λ ns. ns ++ data_name ∷ []) l ∙ append_assoc names (script ∷ []) (data_name ∷ [])))
