@@ -60,6 +60,9 @@ range_none xs i = ap (λ n. take n (drop i xs)) (let e : i - i ≡ 0 = omega ari
 pub range_whole : {X : Type 0} (xs : List X) → slice_range xs 0 (length xs) ≡ xs
 range_whole xs = take_all (length xs - 0) xs (omega arith)
 
+pub get_here : {X : Type 0} (xs : List X) (i : ℕ) (x : X) → i < length xs → x ≡ get_or xs i x → slice_get xs i ≡ Some x
+get_here xs i x l is = elim (slice_get_cases xs i).1 [ inl h ↦ h.2 ∙ ap Some (sym (is ∙ get_or_from_slice_get xs i h.0 x h.2)) | inr h ↦ absurd (omega (arith, h.0, l)) ]
+
 -- ---- a loop that filters
 
 pub some_at : {X : Type 0} (xs : List X) (i : ℕ) → i < length xs → (x : X) × (drop i xs ≡ x ∷ drop (i + 1) xs)

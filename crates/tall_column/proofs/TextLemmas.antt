@@ -2,9 +2,11 @@
 use Rattle.std.specs.Prelude.{Some, slice_get, Bool, true, false, if◌then◌else◌, Result, Ok, Err, is_ok, MatchResult}
 use Rattle.std.specs.List.{slice_range}
 use Rattle.std.specs.Str.{IsUtf8}
-use Rattle.std.proofs.Common.{ℕ, zero, suc, ◌≡◌, ◌<◌, ◌≤◌, ◌-◌, List, [], ◌∷◌, ◌++◌, length, take, drop, get_or, refl, sym, ◌∙◌, ap, subst, arith}
-use Rattle.std.proofs.lemmas.List.{take-append-le, drop-append-le, drop_at, take_all, length-drop, length-append}
-use Rattle.tall_column.specs.Texts.{texts_from, IsCut, begin_at}
+use Rattle.std.proofs.Common.{ℕ, zero, suc, ◌≡◌, ◌<◌, ◌≤◌, ◌-◌, List, [], ◌∷◌, ◌++◌, length, take, drop, map, ◌+◌, get_or, refl, sym, ◌∙◌, ap, subst, arith}
+use Rattle.std.proofs.lemmas.List.{take-append-le, drop-append-le, drop_at, take_all, length-drop, length-append, map-append}
+use Rattle.std.proofs.Math.Seq.{drop-append-add}
+use Rattle.tall_value.specs.Cells.{text as as_text}
+use Rattle.tall_column.specs.Texts.{texts_from, IsCut, begin_at, further}
 
 pub length-texts : (bytes : List ℕ) (start : ℕ) (ends : List ℕ) → length (texts_from bytes start ends) ≡ length ends
 length-texts bytes start [] = refl
@@ -75,4 +77,59 @@ result-texts (Ok a) bytes ends text later later_ends old same h is s e f =
     ap (λ v. texts_from v 0 later_ends) e ∙ ap (λ v. texts_from (bytes ++ text) 0 v) f ∙ pushed-texts bytes text 0 ends h
     ∙ ap (λ v. v ++ text ∷ []) is ∙ ap (λ v. old ++ v ∷ []) s
 result-texts (Err a) bytes ends text later later_ends old same h is s e f =
+    ap (λ v. texts_from v 0 later_ends) e ∙ ap (λ v. texts_from bytes 0 v) f ∙ is
+
+-- ---- texts of another buffer
+
+range-further : (bytes more : List ℕ) (i j : ℕ) → slice_range (bytes ++ more) (length bytes + i) (length bytes + j) ≡ slice_range more i j
+range-further bytes more i j =
+    let width : length bytes + j - (length bytes + i) ≡ j - i = omega arith in
+    ap (λ n. take n (drop (length bytes + i) (bytes ++ more))) width ∙ ap (λ v. take (j - i) v) (drop-append-add bytes more i)
+
+further-texts : (bytes more : List ℕ) (start : ℕ) (ends : List ℕ) → texts_from (bytes ++ more) (length bytes + start) (further (length bytes) ends) ≡ texts_from more start ends
+further-texts bytes more start [] = refl
+further-texts bytes more start (end ∷ ends) =
+    ap (λ v. v ∷ texts_from (bytes ++ more) (length bytes + end) (further (length bytes) ends)) (range-further bytes more start end)
+    ∙ ap (λ vs. slice_range more start end ∷ vs) (further-texts bytes more end ends)
+
+further-cut : (bytes more : List ℕ) (start : ℕ) (ends : List ℕ) → IsCut more start ends → IsCut (bytes ++ more) (length bytes + start) (further (length bytes) ends)
+further-cut bytes more start [] h = omega (arith, length-append bytes more, h)
+further-cut bytes more start (end ∷ ends) h =
+    (omega (arith, h.0), omega (arith, length-append bytes more, h.1), subst IsUtf8 (sym (range-further bytes more start end)) h.2, further-cut bytes more end ends h.3)
+
+joined-texts : (bytes more : List ℕ) (start : ℕ) (ends more_ends : List ℕ) → IsCut bytes start ends
+    → texts_from (bytes ++ more) start (ends ++ further (length bytes) more_ends) ≡ texts_from bytes start ends ++ texts_from more 0 more_ends
+joined-texts bytes more start [] more_ends h =
+    let at : start ≡ length bytes + 0 = omega (arith, h) in
+    ap (λ s. texts_from (bytes ++ more) s (further (length bytes) more_ends)) at ∙ further-texts bytes more 0 more_ends
+joined-texts bytes more start (end ∷ ends) more_ends h =
+    ap (λ v. v ∷ texts_from (bytes ++ more) end (ends ++ further (length bytes) more_ends)) (range-append bytes more start end (omega (arith, h.0, h.1)) h.1)
+    ∙ ap (λ vs. slice_range bytes start end ∷ vs) (joined-texts bytes more end ends more_ends h.3)
+
+joined-cut : (bytes more : List ℕ) (start : ℕ) (ends more_ends : List ℕ) → IsCut bytes start ends → IsCut more 0 more_ends
+    → IsCut (bytes ++ more) start (ends ++ further (length bytes) more_ends)
+joined-cut bytes more start [] more_ends h m =
+    let at : length bytes + 0 ≡ start = omega (arith, h) in
+    subst (λ s. IsCut (bytes ++ more) s (further (length bytes) more_ends)) at (further-cut bytes more 0 more_ends m)
+joined-cut bytes more start (end ∷ ends) more_ends h m =
+    (h.0, omega (arith, length-append bytes more, h.1), subst IsUtf8 (sym (range-append bytes more start end (omega (arith, h.0, h.1)) h.1)) h.2, joined-cut bytes more end ends more_ends h.3 m)
+
+pub appended-cut : (ok : Bool) (bytes ends more more_ends later later_ends : List ℕ) → IsCut bytes 0 ends → IsCut more 0 more_ends
+    → later ≡ (if ok then bytes ++ more else bytes) → later_ends ≡ (if ok then ends ++ further (length bytes) more_ends else ends)
+    → IsCut later 0 later_ends
+appended-cut true bytes ends more more_ends later later_ends h m e f =
+    subst (λ v. IsCut v 0 later_ends) (sym e) (subst (λ v. IsCut (bytes ++ more) 0 v) (sym f) (joined-cut bytes more 0 ends more_ends h m))
+appended-cut false bytes ends more more_ends later later_ends h m e f =
+    subst (λ v. IsCut v 0 later_ends) (sym e) (subst (λ v. IsCut bytes 0 v) (sym f) h)
+
+pub appended-texts : {A E : Type 0} (r : Result A E) (bytes ends more more_ends later later_ends : List ℕ) (old next : List (List ℕ))
+    → IsCut bytes 0 ends → texts_from bytes 0 ends ≡ old → texts_from more 0 more_ends ≡ next
+    → later ≡ (if is_ok r then bytes ++ more else bytes) → later_ends ≡ (if is_ok r then ends ++ further (length bytes) more_ends else ends)
+    → MatchResult r (λ _. map (λ s. as_text s) (texts_from later 0 later_ends) ≡ map (λ s. as_text s) old ++ map (λ s. as_text s) next) (λ _. texts_from later 0 later_ends ≡ old)
+appended-texts (Ok a) bytes ends more more_ends later later_ends old next h is next_is e f =
+    ap (map (λ s. as_text s))
+    (ap (λ v. texts_from v 0 later_ends) e ∙ ap (λ v. texts_from (bytes ++ more) 0 v) f ∙ joined-texts bytes more 0 ends more_ends h
+    ∙ ap (λ v. v ++ texts_from more 0 more_ends) is ∙ ap (λ v. old ++ v) next_is)
+    ∙ map-append (λ s. as_text s) old next
+appended-texts (Err a) bytes ends more more_ends later later_ends old next h is next_is e f =
     ap (λ v. texts_from v 0 later_ends) e ∙ ap (λ v. texts_from bytes 0 v) f ∙ is

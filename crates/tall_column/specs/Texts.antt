@@ -1,5 +1,5 @@
 -- Texts in one buffer: each ends where the next begins.
-use Rattle.std.specs.Prelude.{ℕ, zero, suc, ◌≡◌, ◌≤◌, List, [], ◌∷◌, length}
+use Rattle.std.specs.Prelude.{ℕ, zero, suc, ◌≡◌, ◌≤◌, List, [], ◌∷◌, ◌+◌, length, map}
 use Rattle.std.specs.List.{slice_range}
 use Rattle.std.specs.Str.{IsUtf8}
 
@@ -18,3 +18,7 @@ abbrev pub begin_at : ℕ → List ℕ → ℕ → ℕ
 begin_at start ends zero = start
 begin_at start [] (suc at) = start
 begin_at start (end ∷ ends) (suc at) = begin_at end ends at
+
+-- places so much further on
+abbrev pub further : ℕ → List ℕ → List ℕ
+further by ends = map (λ end. by + end) ends

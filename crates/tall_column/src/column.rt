@@ -2,6 +2,7 @@
 ghost use Rattle.std.specs.Prelude.{◌≡◌, ◌<◌, ◌≤◌, [], IfOk, MatchResult, Some, length, slice_get};
 ghost use Rattle.tall_value.specs.declared.class.Class.TheVariants as class;
 ghost use Rattle.tall_value.specs.Cells.{seen};
+ghost use Rattle.tall_column.specs.Dense.{shown};
 ghost use Rattle.tall_column.specs.Columns.{class_of_cell, followed_by, rows_between, rows_kept, with_cell};
 
 use crate::values::Values;
@@ -35,6 +36,20 @@ impl Column {
             values: Values::new(alloc, class),
             alloc,
         }
+    }
+
+    /// The column of values.
+    pub(crate) fn of_values(alloc: Global, values: Values) -> Column
+        ensures { result ≡ shown values }
+    {
+        Column { values, alloc }
+    }
+
+    /// The values.
+    pub(crate) fn values(&self) -> &Values
+        ensures { shown result.now ≡ self.now }
+    {
+        &self.values
     }
 
     /// The class of the cells.
@@ -73,7 +88,7 @@ impl Column {
         requires { other.now.class ≡ self.old.class }
         ensures { MatchResult result (λ _. self.new ≡ followed_by self.old other.now) (λ _. self.new ≡ self.old) }
     {
-        self.values.concat(self.alloc, &other.values)
+        self.values.concat(&other.values)
     }
 
     /// The rows from `from` to before `to`, counted from 0.

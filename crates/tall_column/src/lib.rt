@@ -5,13 +5,25 @@
 #![tactic(auto)]
 
 mod column;
+mod dense;
+mod faults;
+mod integer;
+mod loops;
+mod operators;
+mod rows;
+mod scalars;
 mod stored;
 mod table;
 mod texts;
+mod unaries;
 mod values;
 
 pub use column::Column;
+pub use faults::OpFault;
+pub use rows::{map_binary, map_scalar, map_unary};
 pub use table::{Table, Value};
 
+#[cfg(test)]
+mod row_tests;
 #[cfg(test)]
 mod tests;

@@ -5,10 +5,14 @@ ghost use Rattle.tall_value.specs.declared.class.Class.{Class};
 ghost use Rattle.tall_value.specs.declared.class.Class.TheVariants as class;
 ghost use Rattle.tall_value.specs.declared.class.IntKind.TheVariants.{Int8, Int16, Int32, Int64, Uint8, Uint16, Uint32, Uint64};
 ghost use Rattle.tall_value.specs.Cells.{Seen, double, logical, seen, whole};
+ghost use Rattle.tall_value.specs.CellOperators.{comparison};
 ghost use Rattle.tall_value.specs.Filters.{kept};
 ghost use Rattle.tall_column.specs.Columns.{class_of_cell};
+ghost use Rattle.tall_column.specs.Dense.{shown as values_shown};
 
+use crate::values::Values;
 use std::alloc::{AllocError, Global};
+use std::cmp::Ordering;
 use tall_int::Whole;
 use tall_value::Cell;
 
@@ -27,6 +31,14 @@ pub(crate) trait Stored: Copy {
     fn of(cell: &Cell<'_>) -> Self
         requires { class_of_cell (seen cell.now) ≡ class }
         ensures { shown result ≡ seen cell.now };
+
+    /// How two values compare; none with a NaN.
+    fn order(self, other: Self) -> Option<Ordering>
+        ensures { result ≡ comparison (shown self) (shown other) };
+
+    /// The values of a column.
+    fn values(items: Vec<Self>) -> Values
+        ensures { values_shown result ≡ record { class = class; cells = map shown items.items } };
 }
 
 impl Stored for i8 {
@@ -43,6 +55,16 @@ impl Stored for i8 {
             Cell::I8(n) => n,
             _ => unreachable!(),
         }
+    }
+
+    fn order(self, other: i8) -> Option<Ordering> {
+        Some(self.cmp(&other))
+    }
+
+    fn values(items: Vec<i8>) -> Values
+        ensures { values_shown result ≡ record { class = class.Int8; cells = map (λ n. whole Int8 n) items.items } }
+    {
+        Values::I8(items)
     }
 }
 
@@ -61,6 +83,16 @@ impl Stored for i16 {
             _ => unreachable!(),
         }
     }
+
+    fn order(self, other: i16) -> Option<Ordering> {
+        Some(self.cmp(&other))
+    }
+
+    fn values(items: Vec<i16>) -> Values
+        ensures { values_shown result ≡ record { class = class.Int16; cells = map (λ n. whole Int16 n) items.items } }
+    {
+        Values::I16(items)
+    }
 }
 
 impl Stored for i32 {
@@ -77,6 +109,16 @@ impl Stored for i32 {
             Cell::I32(n) => n,
             _ => unreachable!(),
         }
+    }
+
+    fn order(self, other: i32) -> Option<Ordering> {
+        Some(self.cmp(&other))
+    }
+
+    fn values(items: Vec<i32>) -> Values
+        ensures { values_shown result ≡ record { class = class.Int32; cells = map (λ n. whole Int32 n) items.items } }
+    {
+        Values::I32(items)
     }
 }
 
@@ -95,6 +137,16 @@ impl Stored for i64 {
             _ => unreachable!(),
         }
     }
+
+    fn order(self, other: i64) -> Option<Ordering> {
+        Some(self.cmp(&other))
+    }
+
+    fn values(items: Vec<i64>) -> Values
+        ensures { values_shown result ≡ record { class = class.Int64; cells = map (λ n. whole Int64 n) items.items } }
+    {
+        Values::I64(items)
+    }
 }
 
 impl Stored for u8 {
@@ -111,6 +163,16 @@ impl Stored for u8 {
             Cell::U8(n) => n,
             _ => unreachable!(),
         }
+    }
+
+    fn order(self, other: u8) -> Option<Ordering> {
+        Some(self.cmp(&other))
+    }
+
+    fn values(items: Vec<u8>) -> Values
+        ensures { values_shown result ≡ record { class = class.Uint8; cells = map (λ n. whole Uint8 (pos n)) items.items } }
+    {
+        Values::U8(items)
     }
 }
 
@@ -129,6 +191,16 @@ impl Stored for u16 {
             _ => unreachable!(),
         }
     }
+
+    fn order(self, other: u16) -> Option<Ordering> {
+        Some(self.cmp(&other))
+    }
+
+    fn values(items: Vec<u16>) -> Values
+        ensures { values_shown result ≡ record { class = class.Uint16; cells = map (λ n. whole Uint16 (pos n)) items.items } }
+    {
+        Values::U16(items)
+    }
 }
 
 impl Stored for u32 {
@@ -145,6 +217,16 @@ impl Stored for u32 {
             Cell::U32(n) => n,
             _ => unreachable!(),
         }
+    }
+
+    fn order(self, other: u32) -> Option<Ordering> {
+        Some(self.cmp(&other))
+    }
+
+    fn values(items: Vec<u32>) -> Values
+        ensures { values_shown result ≡ record { class = class.Uint32; cells = map (λ n. whole Uint32 (pos n)) items.items } }
+    {
+        Values::U32(items)
     }
 }
 
@@ -163,6 +245,16 @@ impl Stored for u64 {
             _ => unreachable!(),
         }
     }
+
+    fn order(self, other: u64) -> Option<Ordering> {
+        Some(self.cmp(&other))
+    }
+
+    fn values(items: Vec<u64>) -> Values
+        ensures { values_shown result ≡ record { class = class.Uint64; cells = map (λ n. whole Uint64 (pos n)) items.items } }
+    {
+        Values::U64(items)
+    }
 }
 
 impl Stored for bool {
@@ -180,6 +272,16 @@ impl Stored for bool {
             _ => unreachable!(),
         }
     }
+
+    fn order(self, other: bool) -> Option<Ordering> {
+        Some(self.cmp(&other))
+    }
+
+    fn values(items: Vec<bool>) -> Values
+        ensures { values_shown result ≡ record { class = class.Logical; cells = map (λ b. logical b) items.items } }
+    {
+        Values::Logical(items)
+    }
 }
 
 impl Stored for Whole {
@@ -196,6 +298,19 @@ impl Stored for Whole {
             Cell::Double(n) => n,
             _ => unreachable!(),
         }
+    }
+
+    fn order(self, other: Whole) -> Option<Ordering> {
+        match (self.get(), other.get()) {
+            (Some(a), Some(b)) => Some(a.cmp(&b)),
+            _ => None,
+        }
+    }
+
+    fn values(items: Vec<Whole>) -> Values
+        ensures { values_shown result ≡ record { class = class.Double; cells = map (λ d. double d) items.items } }
+    {
+        Values::Double(items)
     }
 }
 

@@ -6,7 +6,7 @@ ghost use Rattle.tall_value.specs.declared.class.Class.TheVariants as class;
 ghost use Rattle.tall_value.specs.Cells.{logical, seen, text};
 ghost use Rattle.tall_value.specs.Filters.{kept};
 ghost use Rattle.tall_column.specs.Columns.{class_of_cell};
-ghost use Rattle.tall_column.specs.Texts.{IsCut, begin_at, texts_from};
+ghost use Rattle.tall_column.specs.Texts.{IsCut, begin_at, further, texts_from};
 
 use std::alloc::{AllocError, Global};
 use std::marker::Model;
@@ -56,6 +56,26 @@ fn add_bytes(bytes: &mut Vec<u8>, ends: &mut Vec<usize>, text: &[u8]) -> Result<
     if ends.push(end).is_err() {
         bytes.truncate(before);
         return Err(AllocError);
+    }
+    Ok(())
+}
+
+/// Adds the bytes of texts, and the places where they end.
+fn append(
+    bytes: &mut Vec<u8>,
+    ends: &mut Vec<usize>,
+    more: &[u8],
+    more_ends: &[usize],
+) -> Result<(), AllocError>
+    requires { IsCut more.now 0 more_ends.now }
+    ensures bytes { bytes.new.items ≡ (if is_ok result then bytes.old.items ++ more.now else bytes.old.items) }
+    ensures ends { ends.new.items ≡ (if is_ok result then ends.old.items ++ further (length bytes.old.items) more_ends.now else ends.old.items) }
+{
+    let before = bytes.len();
+    ends.reserve(more_ends.len())?;
+    bytes.extend_from_slice(more)?;
+    for end in more_ends {
+        ends.push_reserved(before + *end);
     }
     Ok(())
 }
@@ -169,21 +189,15 @@ impl Texts {
         Ok(out)
     }
 
-    /// The texts of both lists, one list after the other.
-    fn joined(&self, alloc: Global, more: &Texts) -> Result<Texts, AllocError>
-        ensures { IfOk result (λ t. t ≡ self.now ++ more.now) }
-    {
-        let mut out = Texts::new(alloc);
-        out.extend(self, 0, self.len())?;
-        out.extend(more, 0, more.len())?;
-        Ok(out)
-    }
-
     /// Adds texts at the end.
-    pub(crate) fn add_all(&mut self, alloc: Global, more: &Texts) -> Result<(), AllocError>
+    pub(crate) fn add_all(&mut self, more: &Texts) -> Result<(), AllocError>
         ensures { MatchResult result (λ _. map (λ s. text s) self.new ≡ map (λ s. text s) self.old ++ map (λ s. text s) more.now) (λ _. self.new ≡ self.old) }
     {
-        *self = self.joined(alloc, more)?;
-        Ok(())
+        append(
+            &mut self.bytes,
+            &mut self.ends,
+            more.bytes.as_slice(),
+            more.ends.as_slice(),
+        )
     }
 }

@@ -173,7 +173,7 @@ impl Values {
     }
 
     /// Adds the values of another column of the class at the end.
-    pub(crate) fn concat(&mut self, alloc: Global, other: &Values) -> Result<(), AllocError>
+    pub(crate) fn concat(&mut self, other: &Values) -> Result<(), AllocError>
         requires { (shown other.now).class ≡ (shown self.old).class }
         ensures { MatchResult result (λ _. shown self.new ≡ followed_by (shown self.old) (shown other.now)) (λ _. shown self.new ≡ shown self.old) }
     {
@@ -188,7 +188,7 @@ impl Values {
             (Values::U64(v), Values::U64(more)) => add_all(v, more.as_slice()),
             (Values::Logical(v), Values::Logical(more)) => add_all(v, more.as_slice()),
             (Values::Double(v), Values::Double(more)) => add_all(v, more.as_slice()),
-            (Values::Text(t), Values::Text(more)) => t.add_all(alloc, more),
+            (Values::Text(t), Values::Text(more)) => t.add_all(more),
             _ => unreachable!(),
         }
     }

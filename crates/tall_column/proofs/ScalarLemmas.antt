@@ -1,0 +1,115 @@
+-- A scalar that counts as a number of a column's class does what the number does.
+use Rattle.std.specs.Prelude.{ℤ, pos, unsigned_abs, not, ◌&&◌, ◌||◌, Bool, true, false, if◌then◌else◌, ◌==◌, Option, None, Some, Result, Ok, Err}
+use Rattle.std.specs.declared.cmp.Ordering.{Ordering}
+use Rattle.std.proofs.Common.{ℕ, ◌+◌, ◌≡◌, List, [], ◌∷◌, map, refl, sym, ◌∙◌, ap}
+use Rattle.tall_int.specs.declared.operators.Arith.{Arith}
+use Rattle.tall_int.specs.declared.operators.Arith.TheVariants as arith
+use Rattle.tall_int.specs.Twos.{twos_and, twos_or, twos_xor}
+use Rattle.tall_value.specs.declared.class.IntKind.{IntKind}
+use Rattle.tall_value.specs.declared.faults.CellFault.{CellFault}
+use Rattle.tall_value.specs.declared.operators.Binary.{Binary}
+use Rattle.tall_value.specs.declared.operators.Binary.TheVariants.{Add, Sub, Mul, Div, Modulo, Idivide, BitAnd, BitOr, BitXor, Eq, Ne, Lt, Le, Gt, Ge, StrCmp, And, Or}
+use Rattle.tall_value.specs.Cells.{Seen, whole, logical, double, text, amount, bit}
+use Rattle.tall_value.specs.CellOperators.{integer_side, in_class, converted, arithmetic, double_cell, of_doubles, as_double, bits, compared, comparison, equal, below, above, truth, joined, binary_cell}
+use Rattle.tall_value.specs.Columns.{numbered}
+use Rattle.tall_value.specs.Elementwise.{at_row, each_row, beside}
+use Rattle.tall_column.specs.Scalars.{IsBeside, StandsFor}
+
+-- what an operator looks at in two operands with an integer among them
+record Alike (k : IntKind) (x y v w : Seen) : Type 0 where
+  pub side : integer_side x y ≡ Some k
+  pub other_side : integer_side v w ≡ Some k
+  pub first : amount x ≡ amount v
+  pub second : amount y ≡ amount w
+  pub compares : comparison x y ≡ comparison v w
+  pub first_truth : truth x ≡ truth v
+  pub second_truth : truth y ≡ truth w
+
+abbrev in_side : Arith → Option ℤ → Option ℤ → Option IntKind → Result Seen CellFault → Result Seen CellFault
+in_side op a b s other = elim s [ Some k ↦ Ok (whole k (in_class k op a b)) | None ↦ other ]
+
+abbrev in_bits : (ℤ → ℤ → ℤ) → Option ℤ → Option ℤ → Option IntKind → Result Seen CellFault
+in_bits op a b s = elim s [ Some k ↦ Ok (whole k (op (converted k a) (converted k b))) | None ↦ Ok (double None) ]
+
+arithmetic-is : (op : Arith) (k : IntKind) (x y : Seen) → integer_side x y ≡ Some k → arithmetic op x y ≡ Ok (whole k (in_class k op (amount x) (amount y)))
+arithmetic-is op k x y h = ap (λ (s : Option IntKind). in_side op (amount x) (amount y) s (double_cell (of_doubles op (as_double x) (as_double y)))) h
+
+bits-is : (op : ℤ → ℤ → ℤ) (k : IntKind) (x y : Seen) → integer_side x y ≡ Some k → bits op x y ≡ Ok (whole k (op (converted k (amount x)) (converted k (amount y))))
+bits-is op k x y h = ap (λ (s : Option IntKind). in_bits op (amount x) (amount y) s) h
+
+arithmetic-same : (op : Arith) (k : IntKind) (x y v w : Seen) → Alike k x y v w → arithmetic op x y ≡ arithmetic op v w
+arithmetic-same op k x y v w a =
+    arithmetic-is op k x y a.side ∙ ap (λ n. Ok (whole k (in_class k op n (amount y)))) a.first ∙ ap (λ n. Ok (whole k (in_class k op (amount v) n))) a.second
+    ∙ sym (arithmetic-is op k v w a.other_side)
+
+bits-same : (op : ℤ → ℤ → ℤ) (k : IntKind) (x y v w : Seen) → Alike k x y v w → bits op x y ≡ bits op v w
+bits-same op k x y v w a =
+    bits-is op k x y a.side ∙ ap (λ n. Ok (whole k (op (converted k n) (converted k (amount y))))) a.first
+    ∙ ap (λ n. Ok (whole k (op (converted k (amount v)) (converted k n)))) a.second ∙ sym (bits-is op k v w a.other_side)
+
+same_cell : (op : Binary) (k : IntKind) (x y v w : Seen) → Alike k x y v w → binary_cell op x y ≡ binary_cell op v w
+same_cell Add k x y v w a = arithmetic-same arith.Add k x y v w a
+same_cell Sub k x y v w a = arithmetic-same arith.Sub k x y v w a
+same_cell Mul k x y v w a = arithmetic-same arith.Mul k x y v w a
+same_cell Div k x y v w a = arithmetic-same arith.Div k x y v w a
+same_cell Modulo k x y v w a = arithmetic-same arith.Modulo k x y v w a
+same_cell (Idivide how) k x y v w a = arithmetic-same (arith.Idivide how) k x y v w a
+same_cell BitAnd k x y v w a = bits-same twos_and k x y v w a
+same_cell BitOr k x y v w a = bits-same twos_or k x y v w a
+same_cell BitXor k x y v w a = bits-same twos_xor k x y v w a
+same_cell Eq k x y v w a = ap (λ o. Ok (logical (equal o))) a.compares
+same_cell Ne k x y v w a = ap (λ o. Ok (logical (not (equal o)))) a.compares
+same_cell Lt k x y v w a = ap (λ o. Ok (logical (below o))) a.compares
+same_cell Le k x y v w a = ap (λ o. Ok (logical (below o || equal o))) a.compares
+same_cell Gt k x y v w a = ap (λ o. Ok (logical (above o))) a.compares
+same_cell Ge k x y v w a = ap (λ o. Ok (logical (above o || equal o))) a.compares
+same_cell StrCmp k x y v w a = ap (λ o. Ok (logical (equal o))) a.compares
+same_cell And k x y v w a = ap (λ p. joined ◌&&◌ p (truth y)) a.first_truth ∙ ap (λ q. joined ◌&&◌ (truth v) q) a.second_truth
+same_cell Or k x y v w a = ap (λ p. joined ◌||◌ p (truth y)) a.first_truth ∙ ap (λ q. joined ◌||◌ (truth v) q) a.second_truth
+
+abbrev truth_of : ℤ → Result Bool CellFault
+truth_of n = Ok (not (unsigned_abs n == 0))
+
+number_truth : (v n : ℤ) → ◌≡◌ {A = Option ℤ} (Some v) (Some n) → truth_of v ≡ truth_of n
+number_truth v n h = let same : v ≡ n = cc in ap truth_of same
+
+scalar_truth : (k : IntKind) (n : ℤ) (s : Seen) → StandsFor k n s → truth s ≡ truth_of n
+scalar_truth k n (whole j v) h = number_truth v n h.counts
+scalar_truth k n (logical true) h = number_truth (pos 1) n h.counts
+scalar_truth k n (logical false) h = number_truth (pos 0) n h.counts
+scalar_truth k n (double (Some v)) h = number_truth v n h.counts
+scalar_truth k n (double None) h = absurd (let no : ◌≡◌ {A = Option ℤ} None (Some n) = h.counts in cc)
+scalar_truth k n (text t) h = absurd h.beside
+
+before_alike : (k : IntKind) (n m : ℤ) (s : Seen) → StandsFor k n s → Alike k s (whole k m) (whole k n) (whole k m)
+before_alike k n m (whole j v) h = record { side = ap Some h.beside; other_side = refl; first = h.counts; second = refl; compares = ap (λ o. compared o (Some m)) h.counts; first_truth = scalar_truth k n (whole j v) h; second_truth = refl }
+before_alike k n m (logical b) h = record { side = refl; other_side = refl; first = h.counts; second = refl; compares = ap (λ o. compared o (Some m)) h.counts; first_truth = scalar_truth k n (logical b) h; second_truth = refl }
+before_alike k n m (double d) h = record { side = refl; other_side = refl; first = h.counts; second = refl; compares = ap (λ o. compared o (Some m)) h.counts; first_truth = scalar_truth k n (double d) h; second_truth = refl }
+before_alike k n m (text t) h = absurd h.beside
+
+behind_alike : (k : IntKind) (n m : ℤ) (s : Seen) → StandsFor k n s → Alike k (whole k m) s (whole k m) (whole k n)
+behind_alike k n m (whole j v) h = record { side = refl; other_side = refl; first = refl; second = h.counts; compares = ap (λ o. compared (Some m) o) h.counts; first_truth = refl; second_truth = scalar_truth k n (whole j v) h }
+behind_alike k n m (logical b) h = record { side = refl; other_side = refl; first = refl; second = h.counts; compares = ap (λ o. compared (Some m) o) h.counts; first_truth = refl; second_truth = scalar_truth k n (logical b) h }
+behind_alike k n m (double d) h = record { side = refl; other_side = refl; first = refl; second = h.counts; compares = ap (λ o. compared (Some m) o) h.counts; first_truth = refl; second_truth = scalar_truth k n (double d) h }
+behind_alike k n m (text t) h = absurd h.beside
+
+beside_same : (op : Binary) (left : Bool) (k : IntKind) (n m : ℤ) (s : Seen) → StandsFor k n s → beside op left s (whole k m) ≡ beside op left (whole k n) (whole k m)
+beside_same op true k n m s h = same_cell op k s (whole k m) (whole k n) (whole k m) (before_alike k n m s h)
+beside_same op false k n m s h = same_cell op k (whole k m) s (whole k m) (whole k n) (behind_alike k n m s h)
+
+each_same : {A : Type 0} (shown : A → Seen) (f g : Seen → Result Seen CellFault) → ((a : A) → f (shown a) ≡ g (shown a))
+    → (i : ℕ) (items : List A) → each_row f (numbered i (map shown items)) ≡ each_row g (numbered i (map shown items))
+each_same shown f g same i [] = refl
+each_same shown f g same i (a ∷ items) =
+    ap (λ r. at_row i r (each_row f (numbered (i + 1) (map shown items)))) (same a)
+    ∙ ap (λ rest. at_row i (g (shown a)) rest) (each_same shown f g same (i + 1) items)
+
+-- the rows beside a scalar are those beside the value that it counts as
+pub rows_beside : {A : Type 0} (shown : A → Seen) (number : A → ℤ) (op : Binary) (left : Bool) (k : IntKind) (value : A) (s : Seen) (items : List A)
+    → ((a : A) → shown a ≡ whole k (number a)) → StandsFor k (number value) s
+    → each_row (beside op left s) (numbered 0 (map shown items)) ≡ each_row (beside op left (shown value)) (numbered 0 (map shown items))
+rows_beside shown number op left k value s items is h =
+    each_same shown (beside op left s) (beside op left (shown value))
+    (λ a. ap (λ c. beside op left s c) (is a) ∙ beside_same op left k (number value) (number a) s h
+    ∙ ap (λ c. beside op left c (whole k (number a))) (sym (is value)) ∙ ap (λ c. beside op left (shown value) c) (sym (is a)))
+    0 items

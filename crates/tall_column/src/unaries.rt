@@ -1,0 +1,189 @@
+//! Operators of one operand on columns of one class, each in a loop over the values.
+ghost use Rattle.std.specs.Prelude.{◌≡◌, map};
+ghost use Rattle.tall_value.specs.declared.operators.Unary.TheVariants as unary;
+ghost use Rattle.tall_value.specs.Cells.{double};
+ghost use Rattle.tall_value.specs.CellOperators.{to_integer, unary_cell};
+ghost use Rattle.tall_value.specs.Columns.{numbered};
+ghost use Rattle.tall_value.specs.Elementwise.{each_row, unary_rows};
+ghost use Rattle.tall_column.specs.Dense.{shown};
+ghost use Rattle.tall_column.specs.Mapped.{AnswersIfMade};
+
+use crate::dense::made;
+use crate::faults::OpFault;
+use crate::integer::Integer;
+use crate::loops::{RowOperator, each};
+use crate::stored::Stored;
+use crate::values::Values;
+use std::alloc::Global;
+use std::marker::PhantomData;
+use tall_int::{Whole, abs, clamp, neg};
+use tall_value::{CellFault, Unary};
+
+/// `-x`
+struct Opposite;
+
+impl<I: Integer> RowOperator<I> for Opposite {
+    type Out = I;
+
+    ghost gives = { λ _. unary_cell unary.Neg };
+
+    fn of(&self, a: I) -> Result<I, CellFault> {
+        Ok(neg(a))
+    }
+}
+
+impl RowOperator<Whole> for Opposite {
+    type Out = Whole;
+
+    ghost gives = { λ _. unary_cell unary.Neg };
+
+    fn of(&self, a: Whole) -> Result<Whole, CellFault> {
+        Ok(a.neg())
+    }
+}
+
+/// `+x`
+struct Itself;
+
+impl<I: Integer> RowOperator<I> for Itself {
+    type Out = I;
+
+    ghost gives = { λ _. unary_cell unary.Plus };
+
+    fn of(&self, a: I) -> Result<I, CellFault> {
+        Ok(clamp(a.wide()))
+    }
+}
+
+impl RowOperator<Whole> for Itself {
+    type Out = Whole;
+
+    ghost gives = { λ _. unary_cell unary.Plus };
+
+    fn of(&self, a: Whole) -> Result<Whole, CellFault> {
+        Ok(a)
+    }
+}
+
+/// `abs(x)`
+struct Magnitude;
+
+impl<I: Integer> RowOperator<I> for Magnitude {
+    type Out = I;
+
+    ghost gives = { λ _. unary_cell unary.Abs };
+
+    fn of(&self, a: I) -> Result<I, CellFault> {
+        Ok(abs(a))
+    }
+}
+
+impl RowOperator<Whole> for Magnitude {
+    type Out = Whole;
+
+    ghost gives = { λ _. unary_cell unary.Abs };
+
+    fn of(&self, a: Whole) -> Result<Whole, CellFault> {
+        Ok(a.abs())
+    }
+}
+
+/// `int8(x)` and its kin.
+struct To<I> {
+    class: PhantomData<I>,
+}
+
+impl<I: Integer, T: Stored> RowOperator<T> for To<I> {
+    type Out = I;
+
+    ghost gives = { λ _. to_integer I.int_kind };
+
+    fn of(&self, a: T) -> Result<I, CellFault> {
+        Ok(match a.cell().amount() {
+            Some(n) => clamp(n),
+            None => clamp(0),
+        })
+    }
+}
+
+/// The column of the operator at each row.
+fn each_value<T: Stored, F: RowOperator<T>>(
+    alloc: Global,
+    operator: &F,
+    items: &[T],
+) -> Result<Option<Values>, OpFault>
+    ensures { AnswersIfMade (each_row (F.gives operator.now) (numbered 0 (map T.shown items.now))) result }
+{
+    made(each(alloc, operator, items))
+}
+
+/// The column of an integer class.
+fn conversion<I: Integer, T: Stored>(alloc: Global, items: &[T]) -> Result<Option<Values>, OpFault>
+    ensures { AnswersIfMade (each_row (to_integer I.int_kind) (numbered 0 (map T.shown items.now))) result }
+{
+    each_value(alloc, &To::<I> { class: PhantomData }, items)
+}
+
+/// The conversion to an integer class; none for another operator.
+fn converted<T: Stored>(alloc: Global, op: Unary, items: &[T]) -> Result<Option<Values>, OpFault>
+    ensures { AnswersIfMade (unary_rows op (numbered 0 (map T.shown items.now))) result }
+{
+    match op {
+        Unary::ToInt8 => conversion::<i8, T>(alloc, items),
+        Unary::ToInt16 => conversion::<i16, T>(alloc, items),
+        Unary::ToInt32 => conversion::<i32, T>(alloc, items),
+        Unary::ToInt64 => conversion::<i64, T>(alloc, items),
+        Unary::ToUint8 => conversion::<u8, T>(alloc, items),
+        Unary::ToUint16 => conversion::<u16, T>(alloc, items),
+        Unary::ToUint32 => conversion::<u32, T>(alloc, items),
+        Unary::ToUint64 => conversion::<u64, T>(alloc, items),
+        _ => Ok(None),
+    }
+}
+
+/// The sign operators and conversions of a column of an integer class; none for another operator.
+fn each_integer<I: Integer>(
+    alloc: Global,
+    op: Unary,
+    items: &[I],
+) -> Result<Option<Values>, OpFault>
+    ensures { AnswersIfMade (unary_rows op (numbered 0 (map I.shown items.now))) result }
+{
+    match op {
+        Unary::Neg => each_value(alloc, &Opposite, items),
+        Unary::Plus => each_value(alloc, &Itself, items),
+        Unary::Abs => each_value(alloc, &Magnitude, items),
+        _ => converted(alloc, op, items),
+    }
+}
+
+/// The sign operators and conversions of a column of doubles; none for another operator.
+fn each_double(alloc: Global, op: Unary, items: &[Whole]) -> Result<Option<Values>, OpFault>
+    ensures { AnswersIfMade (unary_rows op (numbered 0 (map (λ d. double d) items.now))) result }
+{
+    match op {
+        Unary::Neg => each_value(alloc, &Opposite, items),
+        Unary::Plus => each_value(alloc, &Itself, items),
+        Unary::Abs => each_value(alloc, &Magnitude, items),
+        _ => converted(alloc, op, items),
+    }
+}
+
+/// The operator on a column; none where no loop does it.
+pub(crate) fn column_each(alloc: Global, op: Unary, a: &Values) -> Result<Option<Values>, OpFault>
+    ensures { AnswersIfMade (unary_rows op (numbered 0 (shown a.now).cells)) result }
+{
+    match a {
+        Values::I8(a) => each_integer(alloc, op, a.as_slice()),
+        Values::I16(a) => each_integer(alloc, op, a.as_slice()),
+        Values::I32(a) => each_integer(alloc, op, a.as_slice()),
+        Values::I64(a) => each_integer(alloc, op, a.as_slice()),
+        Values::U8(a) => each_integer(alloc, op, a.as_slice()),
+        Values::U16(a) => each_integer(alloc, op, a.as_slice()),
+        Values::U32(a) => each_integer(alloc, op, a.as_slice()),
+        Values::U64(a) => each_integer(alloc, op, a.as_slice()),
+        Values::Logical(a) => converted(alloc, op, a.as_slice()),
+        Values::Double(a) => each_double(alloc, op, a.as_slice()),
+        Values::Text(_) => Ok(None),
+    }
+}

@@ -1,0 +1,6 @@
+mod RunSteps
+mod StatesKept
+mod StoresKept
+mod LocalsKept
+mod Numbers
+mod FromBytes

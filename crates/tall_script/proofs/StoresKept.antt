@@ -1,0 +1,191 @@
+-- Datastores and openings are only added in a run.
+use Rattle.std.proofs.Common.{ℕ, List, [], ◌∷◌, ◌++◌, Bool, true, false, refl, ap, sym, ◌∙◌}
+use Rattle.std.proofs.lemmas.List.{append-nil, append_assoc}
+use Rattle.std.specs.List.{flat_map}
+use Rattle.std.specs.Prelude.{if◌then◌else◌, ◌==◌, length, Option, None, Some, Result, Ok, Err, codes}
+use Rattle.tall_outside.specs.Shelf.{Files}
+use Rattle.tall_semantics.specs.Faults.{At}
+use Rattle.tall_semantics.specs.Talls.{Tall}
+use Rattle.tall_store.specs.declared.faults.StoreFault.{StoreFault}
+use Rattle.tall_store.specs.Opening.{opening}
+use Rattle.tall_store.specs.Options.{SeenOptions}
+use Rattle.tall_store.specs.Stores.{SeenStore}
+use Rattle.tall_parse.specs.Trees.{Args, Body, assigned, gathered, property, bare, Entry, Routine, Tree, tree}
+use Rattle.tall_parse.specs.Trees as trees
+use Rattle.tall_script.specs.Arguments.{Argument}
+use Rattle.tall_script.specs.Datastores.{datastore_call, options_in, first_opening, made_store, store_with}
+use Rattle.tall_script.specs.Expressions.{Valued, gives, stops, answered, arguments}
+use Rattle.tall_script.specs.Functions.{of_values, tabular_text_datastore, tall, gather, mapreduce, readall, hasnext, getnext, add}
+use Rattle.tall_script.specs.Gathers.{answered_all, first_of, gather_all, gather_if, gather_known, gather_one, talls_in}
+use Rattle.tall_script.specs.Memory.{Memory}
+use Rattle.tall_script.specs.Refusals.{Refusal, Stop}
+use Rattle.tall_script.specs.StateLaws.{state_after, done_state, IsKept, CallsKeep, Follows}
+use Rattle.tall_script.specs.ScriptLanguage.{Setting, mapreduce_with, reduced_arguments, reduce_store, script_call, script_language, script_value, table_or_stop}
+use Rattle.tall_script.specs.Runs.{Run, next, run_from}
+use Rattle.tall_script.specs.Statements.{Done, shows, fails, then_do, set_name, set_names, gather_into, put_store, alone, body, statement}
+use Rattle.tall_script.specs.ScriptValues.{TallValue}
+use Rattle.tall_script.specs.Values.{Openings, State, Store, in_memory, with_openings, with_store}
+use Rattle.tall_script.proofs.StatesKept.{value_kept, arguments_kept}
+
+same_state : (s : State Tall) → Follows s s
+same_state s = record { more_stores = []; stores = sym (append-nil s.stores); more_openings = []; opened = sym (append-nil s.opened) }
+
+pub follows_kept : IsKept Follows
+follows_kept = record {
+  nothing = same_state;
+  both = λ s t u h k. record {
+    more_stores = h.more_stores ++ k.more_stores;
+    stores = k.stores ∙ ap (λ stores. stores ++ k.more_stores) h.stores ∙ append_assoc s.stores h.more_stores k.more_stores;
+    more_openings = h.more_openings ++ k.more_openings;
+    opened = k.opened ∙ ap (λ opened. opened ++ k.more_openings) h.opened ∙ append_assoc s.opened h.more_openings k.more_openings;
+  };
+}
+
+more_openings : (more : List Openings) (s : State Tall) → Follows s (with_openings more s)
+more_openings more s = record { more_stores = []; stores = sym (append-nil s.stores); more_openings = more; opened = refl }
+
+one_store : (d : Store) (s : State Tall) → Follows s (with_store d s)
+one_store d s = record { more_stores = d ∷ []; stores = refl; more_openings = []; opened = sym (append-nil s.opened) }
+
+answer : (at : At) (s : State Tall) (r : Result TallValue Refusal) → Follows s (state_after (answered at s r))
+answer at s (Ok v) = same_state s
+answer at s (Err e) = same_state s
+
+-- ---- datastores
+
+made : (at : At) (files : List (List ℕ)) (r : Result SeenStore StoreFault) (s : State Tall) → Follows s (state_after (made_store at files r s))
+made at files (Ok store) s = one_store (record { at = at; store = store }) s
+made at files (Err f) s = same_state s
+
+stored : (files : Files) (at : At) (o : Option SeenOptions) (s : State Tall) → Follows s (state_after (store_with files at o s))
+stored files at None s = same_state s
+stored files at (Some o) s =
+    let t = with_openings (first_opening o) s in
+    follows_kept.both s t (state_after (made_store at o.files (opening files o) t)) (more_openings (first_opening o) s) (made at o.files (opening files o) t)
+
+datastores : (files : Files) (at : At) (args : List (Argument TallValue)) (s : State Tall) → Follows s (state_after (datastore_call files at args s))
+unfolding datastore_call
+datastores files at args s = stored files at (options_in args) s
+
+-- ---- gathers
+
+all_answered : (s : State Tall) (r : Result (List Memory) Stop) → Follows s (state_after (answered_all s r))
+all_answered s (Ok vs) = same_state s
+all_answered s (Err stop) = same_state s
+
+known : (vs : List TallValue) (xs : List Tall) (s : State Tall) → Follows s (state_after (gather_known vs xs s))
+known vs xs s = let t = with_openings _ s in follows_kept.both s t _ (more_openings _ s) (all_answered t _)
+
+tested : (b : Bool) (line : ℕ) (vs : List TallValue) (s : State Tall) → Follows s (state_after (gather_if b line vs s))
+tested true line vs s = known vs (flat_map talls_in vs) s
+tested false line vs s = same_state s
+
+pub gathers : (line : ℕ) (vs : List TallValue) (s : State Tall) → Follows s (state_after (gather_all line vs s))
+unfolding gather_all
+gathers line vs s = tested _ line vs s
+
+first : (s : State Tall) (v : Valued (List Memory) (State Tall)) → Follows s (state_after v) → Follows s (state_after (first_of v))
+first s (gives [] t) h = h
+first s (gives (v ∷ vs) t) h = h
+first s (stops stop t) h = h
+
+one_gather : (at : At) (vs : Option (List TallValue)) (s : State Tall) → Follows s (state_after (gather_one at vs s))
+one_gather at None s = same_state s
+one_gather at (Some []) s = same_state s
+one_gather at (Some (v ∷ [])) s = first s (gather_all at.line (v ∷ []) s) (gathers at.line (v ∷ []) s)
+one_gather at (Some (v ∷ w ∷ vs)) s = same_state s
+
+-- ---- mapreduce
+
+tabled : (r : Result Memory Stop) (s : State Tall) → Follows s (state_after (table_or_stop r s))
+tabled (Ok v) s = same_state s
+tabled (Err stop) s = same_state s
+
+reduces : (files : Files) (at : At) (d : Option Store) (m r : Option Routine) (s : State Tall) → Follows s (state_after (reduce_store files at d m r s))
+reduces files at None m r s = same_state s
+reduces files at (Some d) None r s = same_state s
+reduces files at (Some d) (Some m) None s = same_state s
+reduces files at (Some d) (Some m) (Some r) s = let t = with_openings _ s in follows_kept.both s t _ (more_openings _ s) (tabled _ t)
+
+mapreduces : (setting : Setting) (at : At) (a : Result (ℕ × List ℕ × List ℕ) Refusal) (s : State Tall) → Follows s (state_after (mapreduce_with setting at a s))
+mapreduces setting at (Ok a) s = reduces setting.files at _ _ _ s
+mapreduces setting at (Err e) s = same_state s
+
+-- ---- all calls, and expressions
+
+calls_follow : (setting : Setting) → CallsKeep (script_language setting) Follows
+unfolding script_call
+calls_follow setting at (of_values f) args s = answer at s _
+calls_follow setting at tabular_text_datastore args s = datastores setting.files at args s
+calls_follow setting at tall args s = answer at s _
+calls_follow setting at gather args s = one_gather at _ s
+calls_follow setting at mapreduce args s = mapreduces setting at (reduced_arguments args) s
+calls_follow setting at readall args s = answer at s _
+calls_follow setting at hasnext args s = same_state s
+calls_follow setting at getnext args s = same_state s
+calls_follow setting at add args s = same_state s
+
+expression_follows : (setting : Setting) (e : Tree) (s : State Tall) → Follows s (state_after (script_value setting e s))
+expression_follows setting e s = value_kept (script_language setting) Follows follows_kept (calls_follow setting) e s
+
+-- ---- statements
+
+named : (name : List ℕ) (v : TallValue) (s : State Tall) → Follows s (set_name name v s)
+named name v s = record { more_stores = []; stores = sym (append-nil s.stores); more_openings = []; opened = sym (append-nil s.opened) }
+
+after_value : {V : Type 0} (s : State Tall) (v : Valued V (State Tall)) (f : V → State Tall → Done) → Follows s (state_after v)
+    → ((w : V) (t : State Tall) → Follows t (done_state (f w t))) → Follows s (done_state (then_do v f))
+after_value s (gives w t) f h k = follows_kept.both s t (done_state (f w t)) h (k w t)
+after_value s (stops stop t) f h k = h
+
+all_named : (shown : Bool) (names : List (List ℕ)) (vs : List Memory) (text : List ℕ) (s : State Tall) → Follows s (done_state (set_names shown names vs text s))
+all_named shown [] vs text s = same_state s
+all_named shown (name ∷ names) [] text s = same_state s
+all_named shown (name ∷ names) (v ∷ vs) text s =
+    follows_kept.both s (set_name name (in_memory v) s) _ (named name (in_memory v) s) (all_named shown names vs _ (set_name name (in_memory v) s))
+
+choice : (b : Bool) (s : State Tall) (d e : Done) → Follows s (done_state d) → Follows s (done_state e) → Follows s (done_state (if b then d else e))
+choice true s d e h k = h
+choice false s d e h k = k
+
+gathered_into : (line : ℕ) (shown : Bool) (names : List (List ℕ)) (vs : Option (List TallValue)) (s : State Tall) → Follows s (done_state (gather_into line shown names vs s))
+gathered_into line shown names None s = same_state s
+gathered_into line shown names (Some vs) s =
+    choice (length names == length vs) s _ _ (after_value s (gather_all line vs s) _ (gathers line vs s) (λ gathered t. all_named shown names gathered [] t)) (same_state s)
+
+put : (line : ℕ) (shown : Bool) (name : List ℕ) (d : Result Store Refusal) (s : State Tall) → Follows s (done_state (put_store line shown name d s))
+put line shown name (Ok d) s = record { more_stores = d ∷ []; stores = refl; more_openings = []; opened = sym (append-nil s.opened) }
+put line shown name (Err e) s = same_state s
+
+by_itself : (shown : Bool) (e : Tree) (v : TallValue) (s : State Tall) → Follows s (done_state (alone shown e v s))
+by_itself shown (tree n l (trees.number d)) v s = named (codes "ans") v s
+by_itself shown (tree n l (trees.text t)) v s = named (codes "ans") v s
+by_itself shown (tree n l (trees.name x)) v s = same_state s
+by_itself shown (tree n l (trees.list es)) v s = named (codes "ans") v s
+by_itself shown (tree n l (trees.handle x)) v s = named (codes "ans") v s
+by_itself shown (tree n l (trees.prefixed op e)) v s = named (codes "ans") v s
+by_itself shown (tree n l (trees.joined op e f)) v s = named (codes "ans") v s
+by_itself shown (tree n l (trees.member e x)) v s = named (codes "ans") v s
+by_itself shown (tree n l (trees.call e args)) v s = named (codes "ans") v s
+
+body_follows : (setting : Setting) (line : ℕ) (shown : Bool) (b : Body) (s : State Tall) → Follows s (done_state (body setting line shown b s))
+body_follows setting line shown (assigned name e) s =
+    after_value s (script_value setting e s) _ (expression_follows setting e s) (λ v t. named name v t)
+body_follows setting line shown (gathered names args) s =
+    after_value s (arguments (script_language setting) args false s) _
+    (arguments_kept (script_language setting) Follows follows_kept (calls_follow setting) args false s) (λ given t. gathered_into line shown names _ t)
+body_follows setting line shown (property name p e) s =
+    after_value s (script_value setting e s) _ (expression_follows setting e s) (λ v t. put line shown name _ t)
+body_follows setting line shown (bare e) s =
+    after_value s (script_value setting e s) _ (expression_follows setting e s) (λ v t. by_itself shown e v t)
+
+-- ---- runs
+
+next_follows : (s : State Tall) (d : Done) (rest : State Tall → Run) → Follows s (done_state d) → ((t : State Tall) → Follows t (rest t).state) → Follows s (next d rest).state
+next_follows s (shows text t) rest h k = follows_kept.both s t (rest t).state h (k t)
+next_follows s (fails stop t) rest h k = h
+
+pub run_follows : (setting : Setting) (entries : List Entry) (s : State Tall) → Follows s (run_from setting entries s).state
+run_follows setting [] s = same_state s
+run_follows setting (entry ∷ entries) s =
+    next_follows s (statement setting entry s) _ (body_follows setting entry.line entry.shown entry.form s) (run_follows setting entries)

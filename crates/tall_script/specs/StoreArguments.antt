@@ -1,0 +1,120 @@
+-- The options of a call of `tabularTextDatastore`, and the values of a datastore's properties, by the form of the values
+-- in memory that are given. docs/LANGUAGE.md, datastores. What is in range is told by the options themselves.
+use Rattle.std.specs.Prelude.{ℕ, pos, ◌&&◌, ◌==◌, Bool, true, if◌then◌else◌, List, [], ◌∷◌, Option, None, Some, option_map, option_and_then, codes}
+use Rattle.std.specs.List.{list_all}
+use Rattle.tall_value.specs.Cells.{logical, double}
+use Rattle.tall_cut.specs.declared.cutter.ReadSize.{ReadSize}
+use Rattle.tall_cut.specs.declared.cutter.ReadSize.TheVariants.{Rows, File}
+use Rattle.tall_parse.specs.Grammar.{are_distinct}
+use Rattle.tall_store.specs.declared.format.Format.{Format}
+use Rattle.tall_store.specs.declared.format.Format.TheVariants.{Int8, Int16, Int32, Int64, Uint8, Uint16, Uint32, Uint64, Double, Text}
+use Rattle.tall_store.specs.Options.{SeenOptions}
+use Rattle.tall_script.specs.Lists.{all_of}
+use Rattle.tall_script.specs.Names.{named, names_of, is_among}
+use Rattle.tall_script.specs.Memory.{Memory, scalar, texts, scalar_in, text_in}
+use Rattle.tall_script.specs.Tasks.{text_of, choice_of}
+
+-- ---- values of options
+
+-- a text or a list
+abbrev pub texts_given : Memory → Option (List (List ℕ))
+texts_given (scalar c) = option_map (λ t. t ∷ []) (text_in c)
+texts_given (texts ts) = Some ts
+texts_given v = None
+
+-- one byte; the two characters `\t` are a tab
+abbrev pub delimiter_of : List ℕ → Option ℕ
+delimiter_of (b ∷ []) = Some b
+delimiter_of (b ∷ c ∷ []) = if (b == 92) && (c == 116) then Some 9 else None
+delimiter_of t = None
+
+abbrev pub delimiter_given : Memory → Option ℕ
+delimiter_given v = option_and_then delimiter_of (text_of (scalar_in v))
+
+abbrev pub sizes : List (List ℕ × ReadSize)
+sizes = (codes "file", File) ∷ []
+
+-- a whole number, or 'file'
+abbrev pub size_given : Memory → Option ReadSize
+size_given (scalar (double (Some (pos n)))) = Some (Rows n)
+size_given v = choice_of sizes (scalar_in v)
+
+abbrev pub formats : List (List ℕ × Format)
+formats =
+    (codes "%d8", Int8) ∷ (codes "%d16", Int16) ∷ (codes "%d32", Int32) ∷ (codes "%d64", Int64)
+    ∷ (codes "%u8", Uint8) ∷ (codes "%u16", Uint16) ∷ (codes "%u32", Uint32) ∷ (codes "%u64", Uint64)
+    ∷ (codes "%d", Int32) ∷ (codes "%u", Uint32) ∷ (codes "%f", Double) ∷ (codes "%q", Text) ∷ []
+
+-- a list of formats
+abbrev pub formats_given : Memory → Option (List Format)
+formats_given (texts ts) = all_of (named formats) ts
+formats_given v = None
+
+abbrev pub truth_given : Memory → Option Bool
+truth_given (scalar (logical b)) = Some b
+truth_given v = None
+
+-- ---- options
+
+abbrev pub with_pair : Option (List ℕ) → Memory → Option (List (List ℕ × Memory)) → Option (List (List ℕ × Memory))
+with_pair (Some name) v (Some pairs) = Some ((name, v) ∷ pairs)
+with_pair name v pairs = None
+
+-- pairs of a name and a value
+abbrev pub pairs_given : List Memory → Option (List (List ℕ × Memory))
+pairs_given [] = Some []
+pairs_given (name ∷ []) = None
+pairs_given (name ∷ v ∷ rest) = with_pair (text_of (scalar_in name)) v (pairs_given rest)
+
+abbrev pub option_names : List (List ℕ)
+option_names =
+    codes "Delimiter" ∷ codes "ReadSize" ∷ codes "TreatAsMissing" ∷ codes "SelectedVariableNames" ∷ codes "TextscanFormats"
+    ∷ codes "ReadVariableNames" ∷ []
+
+-- each is an option, and stands once
+abbrev pub are_options : List (List ℕ) → Bool
+are_options names = list_all (λ name. is_among name option_names) names && are_distinct names
+
+-- an option's value, or its default
+abbrev pub option_or : {A : Type 0} → (Memory → Option A) → A → Option Memory → Option A
+option_or read default None = Some default
+option_or read default (Some v) = read v
+
+-- the same of an option that has none
+abbrev pub optional : {A : Type 0} → (Memory → Option A) → Option Memory → Option (Option A)
+optional read None = Some None
+optional read (Some v) = option_map (λ a. Some a) (read v)
+
+-- the options by the files and by the six values
+abbrev pub options_with : Option (List (List ℕ)) → Option ℕ → Option ReadSize → Option (List (List ℕ)) → Option (Option (List (List ℕ))) → Option (Option (List Format)) → Option Bool → Option SeenOptions
+options_with (Some files) (Some delimiter) (Some size) (Some missing) (Some selected) (Some kinds) (Some header) =
+    Some (record { files = files; delimiter = delimiter; size = size; missing = missing; selected = selected; formats = kinds; header = header })
+options_with files delimiter size missing selected kinds header = None
+
+abbrev pub options_from : Memory → List (List ℕ × Memory) → Option SeenOptions
+options_from files given =
+    options_with (texts_given files)
+    (option_or delimiter_given 44 (named given (codes "Delimiter")))
+    (option_or size_given (Rows 20000) (named given (codes "ReadSize")))
+    (option_or texts_given [] (named given (codes "TreatAsMissing")))
+    (optional texts_given (named given (codes "SelectedVariableNames")))
+    (optional formats_given (named given (codes "TextscanFormats")))
+    (option_or truth_given true (named given (codes "ReadVariableNames")))
+
+-- the options of a call's arguments; none where they aren't accepted
+unfoldable pub options_given : List Memory → Option SeenOptions
+options_given [] = None
+options_given (files ∷ rest) =
+    option_and_then (λ given. if are_options (names_of given) then options_from files given else None) (pairs_given rest)
+
+-- ---- properties
+
+pub data Property : Type 0 where
+  read_size : Property
+  selected_variable_names : Property
+  textscan_formats : Property
+
+abbrev pub properties : List (List ℕ × Property)
+properties =
+    (codes "ReadSize", read_size) ∷ (codes "SelectedVariableNames", selected_variable_names)
+    ∷ (codes "TextscanFormats", textscan_formats) ∷ []

@@ -1,0 +1,15 @@
+pub mod Utf8Fields
+pub mod ReadingLaws
+pub mod Prefixes
+pub mod ByColumn
+pub mod PartRows
+pub mod TableRows
+pub mod Limits
+pub mod Joins
+pub mod Finding
+pub mod Placing
+pub mod Selections
+pub mod Freeness
+pub mod HeaderNames
+pub mod Openings
+pub mod Told

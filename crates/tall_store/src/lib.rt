@@ -1,0 +1,25 @@
+//! Datastores: options, the names and formats of variables, and blocks of records as columns.
+#![tactic(auto)]
+
+mod choices;
+mod columns;
+mod faults;
+mod format;
+mod laws;
+mod names;
+mod open;
+mod opening;
+mod options;
+mod order;
+mod part;
+mod properties;
+mod record;
+mod store;
+mod texts;
+mod values;
+
+pub use faults::{ColumnsFault, ReadingFault, ReadingKind, StoreFault};
+pub use format::Format;
+pub use laws::blocks_make_the_whole;
+pub use options::Options;
+pub use store::Datastore;

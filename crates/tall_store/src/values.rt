@@ -1,0 +1,106 @@
+//! The values of fields.
+ghost use Rattle.std.specs.Prelude.{◌≡◌, IfOk};
+ghost use Rattle.std.specs.List.{list_any};
+ghost use Rattle.std.specs.Str.{bytes_eq};
+ghost use Rattle.std.specs.Result.{result_map_both};
+ghost use Rattle.tall_value.specs.Cells.{seen};
+ghost use Rattle.tall_column.specs.Columns.{class_of_cell};
+ghost use Rattle.tall_store.specs.Formats.{class_of_format};
+ghost use Rattle.tall_store.specs.Fields.{double_number, field_value, integer_number, is_missing, number_fault, utf8_text};
+
+use crate::faults::ReadingKind;
+use crate::format::Format;
+use std::str::from_utf8;
+use tall_int::{IntClass, Whole, WholeFault};
+use tall_num::{read_field, to_class, to_whole, trim_blanks};
+use tall_value::{Cell, Text};
+
+/// Whether one of the spellings is these bytes.
+fn is_spelling(missing: &[Text], bytes: &[u8]) -> bool
+    ensures { result ≡ list_any (λ spelling. bytes_eq spelling bytes.now) missing.now }
+{
+    missing
+        .iter()
+        .any(|spelling| spelling.as_str().as_bytes() == bytes)
+}
+
+/// Whether a field is missing in a numeric format.
+pub(crate) fn is_missing(missing: &[Text], bytes: &[u8]) -> bool
+    ensures { result ≡ is_missing missing.now bytes.now }
+{
+    let text = trim_blanks(bytes);
+    text.is_empty() || is_spelling(missing, text)
+}
+
+/// The number of a field in an integer class.
+fn read_integer<I: IntClass>(missing: &[Text], bytes: &[u8]) -> Result<I, ReadingKind>
+    ensures { result_map_both (λ n. I.number n) (λ e. e) result ≡ integer_number I.MIN I.MAX missing.now bytes.now }
+{
+    if is_missing(missing, bytes) {
+        return Ok(I::from_wide(0));
+    }
+    match read_field(bytes) {
+        Ok(field) => Ok(to_class(field)),
+        Err(_) => Err(ReadingKind::BadField),
+    }
+}
+
+/// What is wrong with a number that is no double of the language.
+fn number_fault(fault: WholeFault) -> ReadingKind
+    ensures { result ≡ number_fault fault }
+{
+    match fault {
+        WholeFault::NotWhole => ReadingKind::NotWhole,
+        WholeFault::Inexact => ReadingKind::Inexact,
+    }
+}
+
+/// The number of a field as a double.
+fn read_double(missing: &[Text], bytes: &[u8]) -> Result<Whole, ReadingKind>
+    ensures { result ≡ double_number missing.now bytes.now }
+{
+    if is_missing(missing, bytes) {
+        return Ok(Whole::nan());
+    }
+    match read_field(bytes) {
+        Ok(field) => match to_whole(field) {
+            Ok(number) => Ok(number),
+            Err(fault) => Err(number_fault(fault)),
+        },
+        Err(_) => Err(ReadingKind::BadField),
+    }
+}
+
+/// A field as a text.
+#[tactic(auto, using(crate::proofs::Utf8Fields::text_of_utf8, crate::proofs::Utf8Fields::text_of_other))]
+fn read_text(bytes: &[u8]) -> Result<&str, ReadingKind>
+    ensures { result_map_both (λ text. text.now) (λ e. e) result ≡ utf8_text bytes.now }
+{
+    match from_utf8(bytes) {
+        Ok(text) => Ok(text),
+        Err(_) => Err(ReadingKind::BadText),
+    }
+}
+
+/// The value of a field in a format, as a cell of the format's class; a text lends the field's bytes.
+pub(crate) fn field_cell<'a>(
+    format: Format,
+    missing: &[Text],
+    bytes: &'a [u8],
+) -> Result<Cell<'a>, ReadingKind>
+    ensures value { result_map_both (λ cell. seen cell) (λ e. e) result ≡ field_value format missing.now bytes.now }
+    ensures class { IfOk result (λ cell. class_of_cell (seen cell) ≡ class_of_format format) }
+{
+    match format {
+        Format::Int8 => Ok(Cell::I8(read_integer(missing, bytes)?)),
+        Format::Int16 => Ok(Cell::I16(read_integer(missing, bytes)?)),
+        Format::Int32 => Ok(Cell::I32(read_integer(missing, bytes)?)),
+        Format::Int64 => Ok(Cell::I64(read_integer(missing, bytes)?)),
+        Format::Uint8 => Ok(Cell::U8(read_integer(missing, bytes)?)),
+        Format::Uint16 => Ok(Cell::U16(read_integer(missing, bytes)?)),
+        Format::Uint32 => Ok(Cell::U32(read_integer(missing, bytes)?)),
+        Format::Uint64 => Ok(Cell::U64(read_integer(missing, bytes)?)),
+        Format::Double => Ok(Cell::Double(read_double(missing, bytes)?)),
+        Format::Text => Ok(Cell::Text(read_text(bytes)?)),
+    }
+}
