@@ -2,6 +2,7 @@
 //!
 //! The words are the number of rows and the number of turns. It prints the last cell of the last turn.
 #![tactic(auto)]
+
 ghost use Rattle.std.specs.Prelude.{◌≡◌, IfOk};
 ghost use Rattle.tall_value.specs.declared.class.Class.TheVariants as class;
 

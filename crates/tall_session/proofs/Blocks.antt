@@ -1,137 +1,151 @@
 -- The native sum over blocks, from what was left of the records to what is left.
-use Rattle.std.proofs.Common.{ℕ, ◌+◌, ◌≡◌, ◌<◌, ◌≤◌, ◌∙◌, length, get_or, drop, drop-cons, add-one, arith, true, false, List, [], ◌∷◌, ◌++◌, sym, ap, subst, refl, ◌+ℤ◌}
-use Rattle.std.specs.Prelude.{ℤ, pos, negsuc, Option, Some, None, IfSome, Result, Ok, Err, ⊤}
-use Rattle.tall_int.specs.Numbers.{nearest}
+use Rattle.std.proofs.Common.{ℕ, ◌+◌, ◌≡◌, ◌<◌, ◌≤◌, ◌∙◌, length, drop, arith, List, [], ◌∷◌, ◌++◌, sym, ap, subst, refl}
+use Rattle.std.specs.Prelude.{ℤ, pos, ◌+ℤ◌, Option, Some, None, IfSome, Result, Ok, Err, ⊤}
+use Rattle.std.specs.List.{filter_map, flat_map}
+use Rattle.std.specs.Option.{option_or}
+use Rattle.std.specs.Result.{result_ok}
+use Rattle.std.proofs.lemmas.Grind.{flat_map-append}
+use Rattle.std.proofs.lemmas.List.Elements.{filter_map-append}
 use Rattle.tall_int.specs.Sums.{clamped_sum}
+use Rattle.tall_int.specs.Numbers.{nearest}
+use Rattle.tall_value.specs.declared.class.IntKind.TheVariants.{Int16}
+use Rattle.tall_value.specs.Cells.{Seen, amount}
+use Rattle.tall_value.specs.Classes.{greatest, least}
 use Rattle.tall_cut.specs.Rows.{Fields, TakesMany, NoneLeft}
-use Rattle.tall_session.specs.Column.{column_from, is_header, native_sum, record_number, sum_from, with_value}
-use Rattle.tall_session.specs.Evaluation.{Agrees, sum_outcome}
-use Rattle.tall_session.specs.declared.column.ColumnFault.{ColumnFault}
-use Rattle.tall_session.specs.declared.column.ColumnFault.TheVariants as fault
+use Rattle.tall_store.specs.declared.faults.ReadingFault.{ReadingFault}
+use Rattle.tall_store.specs.Stores.{SeenStore}
+use Rattle.tall_store.specs.ReadingOrder.{first_reading_fault}
+use Rattle.tall_store.specs.Records.{numbered_records}
+use Rattle.tall_store.specs.Stored.{cells_at, record_faults, unless_fault, value_at}
+use Rattle.tall_store.specs.Blocks.{Block, first_block_fault}
+use Rattle.tall_store.proofs.Prefixes.{first_before}
+use Rattle.tall_store.proofs.Limits.{faults_after, faults_below, numbered_append, rows_apart}
+use Rattle.tall_column.proofs.Lists.{drop_get}
+use Rattle.std.specs.List.{slice_get}
+use Rattle.tall_session.specs.Data.{rest_outcome, sum_from, sum_on}
+use Rattle.tall_session.specs.Evaluation.{Agrees}
 use Rattle.tall_session.specs.declared.outcome.Outcome.{Outcome}
 
--- the sum of the records that were left is that of the records that are left, from the sum and the row so far
-abbrev pub Follows : Option (List Fields) → Option (List Fields) → ℤ → ℕ → Type 0
-Follows None left sum row = ⊤
-Follows (Some records) None sum row = ⊥
-Follows (Some records) (Some rest) sum row = sum_from (pos 0) 1 records ≡ sum_from sum row rest
+-- records of the one file from a row on
+abbrev block_at : ℕ → List Fields → Block
+block_at row records = record { file = 0; row = row; records = records }
 
-pub follows_start : (left : Option (List Fields)) → Follows left left (pos 0) 1
-follows_start None = tt
-follows_start (Some records) = refl
+-- the first fault of a block and of what follows it
+fault_append : (store : SeenStore) (row : ℕ) (block rest : List Fields)
+    → first_block_fault store (block_at row (block ++ rest)) ≡ option_or (first_block_fault store (block_at row block)) (first_block_fault store (block_at (row + length block) rest))
+fault_append store row block rest =
+    let here : List ReadingFault = flat_map (record_faults store) (numbered_records 0 row block) in
+    let later : List ReadingFault = flat_map (record_faults store) (numbered_records 0 (row + length block) rest) in
+    ap first_reading_fault
+    (ap (flat_map (record_faults store)) (numbered_append 0 row block rest)
+    ∙ flat_map-append (record_faults store) (numbered_records 0 row block) (numbered_records 0 (row + length block) rest))
+    ∙ first_before here later
+    (rows_apart (row + length block) here later (faults_below store 0 row (row + length block) block (omega arith)) (faults_after store 0 (row + length block) rest))
 
--- the first record has a number: the sum goes on from it
-pub sum_from-cons : (sum v : ℤ) (row : ℕ) (fields : Fields) (records : List Fields) → record_number row fields ≡ Ok v
-    → sum_from sum row (fields ∷ records) ≡ sum_from (nearest (negsuc 32767) (pos 32767) (sum +ℤ v)) (row + 1) records
-sum_from-cons sum v row fields records e = rw e (each (column_from (row + 1) records))
-  where
-    each : (column : Result (List ℤ) ColumnFault) → with_value (clamped_sum (negsuc 32767) (pos 32767) sum) (with_value (λ ns. v ∷ ns) column)
-        ≡ with_value (clamped_sum (negsuc 32767) (pos 32767) (nearest (negsuc 32767) (pos 32767) (sum +ℤ v))) column
-    each (Ok ns) = refl
-    each (Err fault) = refl
+-- the cells of a block and of what follows it
+cells_append : (store : SeenStore) (place row : ℕ) (block rest : List Fields)
+    → cells_at store (numbered_records 0 row (block ++ rest)) place
+    ≡ cells_at store (numbered_records 0 row block) place ++ cells_at store (numbered_records 0 (row + length block) rest) place
+cells_append store place row block rest =
+    ap (λ rs. cells_at store rs place) (numbered_append 0 row block rest)
+    ∙ filter_map-append (λ r. result_ok (value_at store place r)) (numbered_records 0 row block) (numbered_records 0 (row + length block) rest)
 
--- the first record has none: nor has the sum
-pub sum_from-bad : (sum : ℤ) (row : ℕ) (fault : ColumnFault) (fields : Fields) (records : List Fields) → record_number row fields ≡ Err fault
-    → sum_from sum row (fields ∷ records) ≡ Err fault
-sum_from-bad sum row fault fields records e = rw e refl
+clamped_sum-append : (low high x : ℤ) (ns ms : List ℤ) → clamped_sum low high x (ns ++ ms) ≡ clamped_sum low high (clamped_sum low high x ns) ms
+clamped_sum-append low high x [] ms = refl
+clamped_sum-append low high x (n ∷ ns) ms = clamped_sum-append low high (nearest low high (x +ℤ n)) ns ms
+
+sum_append : (start : ℤ) (cs ds : List Seen) → sum_on start (cs ++ ds) ≡ sum_on (sum_on start cs) ds
+sum_append start cs ds =
+    ap (clamped_sum (least Int16) (greatest Int16) start) (filter_map-append amount cs ds)
+    ∙ clamped_sum-append (least Int16) (greatest Int16) start (filter_map amount cs) (filter_map amount ds)
+
+-- one row more of a column: the sum after it
+pub row_step : (start sum next : ℤ) (row : ℕ) (cs : List Seen) (c : Seen) → slice_get cs row ≡ Some c → next ≡ sum_on sum (c ∷ [])
+    → sum_on sum (drop row cs) ≡ sum_on start cs → sum_on next (drop (row + 1) cs) ≡ sum_on start cs
+row_step start sum next row cs c here e before =
+    ap (λ m. sum_on m (drop (row + 1) cs)) e ∙ sym (sum_append sum (c ∷ []) (drop (row + 1) cs)) ∙ sym (ap (sum_on sum) (drop_get cs row c here)) ∙ before
 
 -- a block and what follows it: the sum goes on, or its fault stands
-after_block : Result ℤ ColumnFault → ℕ → List Fields → Result ℤ ColumnFault
-after_block (Ok next) row rest = sum_from next row rest
-after_block (Err fault) row rest = Err fault
+after_block : SeenStore → ℕ → Result ℤ ReadingFault → ℕ → List Fields → Result ℤ ReadingFault
+after_block store place (Ok next) row rest = sum_from store place next row rest
+after_block store place (Err fault) row rest = Err fault
 
-sum_from-append : (sum : ℤ) (row : ℕ) (block rest : List Fields) → sum_from sum row (block ++ rest) ≡ after_block (sum_from sum row block) (row + length block) rest
+sum_from-append : (store : SeenStore) (place : ℕ) (start : ℤ) (row : ℕ) (block rest : List Fields)
+    → sum_from store place start row (block ++ rest) ≡ after_block store place (sum_from store place start row block) (row + length block) rest
 unfolding after_block
-sum_from-append sum row [] rest = ap (λ r. sum_from sum r rest) (omega arith)
-sum_from-append sum row (fields ∷ block) rest = by_number (λ m. sum_from-append m (row + 1) block rest) (record_number row fields) refl
+sum_from-append store place start row block rest =
+    ap (λ f. unless_fault f (sum_on start (cells_at store (numbered_records 0 row (block ++ rest)) place))) (fault_append store row block rest)
+    ∙ ap (λ n. unless_fault (option_or here later) n)
+    (ap (sum_on start) (cells_append store place row block rest)
+    ∙ sum_append start (cells_at store (numbered_records 0 row block) place) (cells_at store (numbered_records 0 (row + length block) rest) place))
+    ∙ by_fault here
   where
-    by_number : ((m : ℤ) → sum_from m (row + 1) (block ++ rest) ≡ after_block (sum_from m (row + 1) block) (row + 1 + length block) rest)
-        → (number : Result ℤ ColumnFault) → record_number row fields ≡ number
-        → sum_from sum row (fields ∷ (block ++ rest)) ≡ after_block (sum_from sum row (fields ∷ block)) (row + length (fields ∷ block)) rest
-    by_number others (Err fault) e = sum_from-bad sum row fault fields (block ++ rest) e ∙ sym (ap (λ r. after_block r (row + length (fields ∷ block)) rest) (sum_from-bad sum row fault fields block e))
-    by_number others (Ok n) e =
-        let same : row + 1 + length block ≡ row + length (fields ∷ block) = omega arith in
-        sum_from-cons sum n row fields (block ++ rest) e ∙ others _
-        ∙ ap (λ r. after_block (sum_from (nearest (negsuc 32767) (pos 32767) (sum +ℤ n)) (row + 1) block) r rest) same
-        ∙ sym (ap (λ r. after_block r (row + length (fields ∷ block)) rest) (sum_from-cons sum n row fields block e))
+    here : Option ReadingFault
+    here = first_block_fault store (block_at row block)
+
+    later : Option ReadingFault
+    later = first_block_fault store (block_at (row + length block) rest)
+
+    next : ℤ
+    next = sum_on start (cells_at store (numbered_records 0 row block) place)
+
+    by_fault : (f : Option ReadingFault)
+        → unless_fault (option_or f later) (sum_on next (cells_at store (numbered_records 0 (row + length block) rest) place))
+        ≡ after_block store place (unless_fault f next) (row + length block) rest
+    by_fault None = refl
+    by_fault (Some f) = refl
+
+-- ---- the cutter's records
+
+-- the sum of the records that were left is that of the records that are left, from the sum and the row so far
+abbrev pub Follows : SeenStore → ℕ → Option (List Fields) → Option (List Fields) → ℤ → ℕ → Type 0
+Follows store place None left sum row = ⊤
+Follows store place (Some records) None sum row = ⊥
+Follows store place (Some records) (Some rest) sum row = sum_from store place (pos 0) 1 records ≡ sum_from store place sum row rest
+
+pub follows_start : (store : SeenStore) (place : ℕ) (left : Option (List Fields)) → Follows store place left left (pos 0) 1
+follows_start store place None = tt
+follows_start store place (Some records) = refl
 
 -- one block more
-pub follows_step : (begun left left' : Option (List Fields)) (block : List Fields) (sum next : ℤ) (row : ℕ) → Follows begun left sum row
-    → TakesMany left block left' → sum_from sum row block ≡ Ok next → Follows begun left' next (row + length block)
+pub follows_step : (store : SeenStore) (place : ℕ) (begun left left' : Option (List Fields)) (block : List Fields) (sum next : ℤ) (row : ℕ)
+    → Follows store place begun left sum row → TakesMany left block left' → sum_from store place sum row block ≡ Ok next
+    → Follows store place begun left' next (row + length block)
 unfolding after_block
-follows_step None left left' block sum next row f t e = tt
-follows_step (Some records) None left' block sum next row f t e = absurd f
-follows_step (Some records) (Some rest) None block sum next row f t e = absurd t
-follows_step (Some records) (Some rest) (Some more) block sum next row f t e =
-    f ∙ ap (sum_from sum row) t ∙ sum_from-append sum row block more ∙ ap (λ r. after_block r (row + length block) more) e
+follows_step store place None left left' block sum next row f t e = tt
+follows_step store place (Some records) None left' block sum next row f t e = absurd f
+follows_step store place (Some records) (Some rest) None block sum next row f t e = absurd t
+follows_step store place (Some records) (Some rest) (Some more) block sum next row f t e =
+    f ∙ ap (sum_from store place sum row) t ∙ sum_from-append store place sum row block more ∙ ap (λ r. after_block store place r (row + length block) more) e
 
 -- a block with a fault
-pub follows_bad : (begun left left' : Option (List Fields)) (block : List Fields) (sum : ℤ) (row : ℕ) (fault : ColumnFault) → Follows begun left sum row
-    → TakesMany left block left' → sum_from sum row block ≡ Err fault → IfSome begun (λ records. sum_from (pos 0) 1 records ≡ Err fault)
+pub follows_bad : (store : SeenStore) (place : ℕ) (begun left left' : Option (List Fields)) (block : List Fields) (sum : ℤ) (row : ℕ) (fault : ReadingFault)
+    → Follows store place begun left sum row → TakesMany left block left' → sum_from store place sum row block ≡ Err fault
+    → IfSome begun (λ records. sum_from store place (pos 0) 1 records ≡ Err fault)
 unfolding after_block
-follows_bad None left left' block sum row fault f t e = tt
-follows_bad (Some records) None left' block sum row fault f t e = absurd f
-follows_bad (Some records) (Some rest) None block sum row fault f t e = absurd t
-follows_bad (Some records) (Some rest) (Some more) block sum row fault f t e =
-    f ∙ ap (sum_from sum row) t ∙ sum_from-append sum row block more ∙ ap (λ r. after_block r (row + length block) more) e
+follows_bad store place None left left' block sum row fault f t e = tt
+follows_bad store place (Some records) None left' block sum row fault f t e = absurd f
+follows_bad store place (Some records) (Some rest) None block sum row fault f t e = absurd t
+follows_bad store place (Some records) (Some rest) (Some more) block sum row fault f t e =
+    f ∙ ap (sum_from store place sum row) t ∙ sum_from-append store place sum row block more ∙ ap (λ r. after_block store place r (row + length block) more) e
 
 -- no record is left
-pub follows_end : (begun left : Option (List Fields)) (sum : ℤ) (row : ℕ) → Follows begun left sum row → NoneLeft left
-    → IfSome begun (λ records. sum_from (pos 0) 1 records ≡ Ok sum)
-follows_end None left sum row f n = tt
-follows_end (Some records) None sum row f n = absurd f
-follows_end (Some records) (Some rest) sum row f n = f ∙ ap (sum_from sum row) n
-
--- the first record is no header: there is no sum
-pub header_bad : (left left' : Option (List Fields)) (header : List Fields) → TakesMany left header left' → 0 < length header → length header ≤ 1
-    → is_header (get_or header 0 []) ≡ false → IfSome left (λ records. native_sum records ≡ Err fault.NotBuilt)
-header_bad None left' header t some one h = tt
-header_bad (Some records) None header t some one h = absurd t
-header_bad (Some records) (Some rest) [] t some one h = absurd (omega arith)
-header_bad (Some records) (Some rest) (fields ∷ []) t some one h = ap native_sum t ∙ rw h refl
-header_bad (Some records) (Some rest) (fields ∷ more ∷ others) t some one h = absurd (omega arith)
-
--- the first record is the header: the sum is that of the others
-pub header_good : (outcome : Outcome) (left left' : Option (List Fields)) (header : List Fields) → TakesMany left header left' → 0 < length header
-    → length header ≤ 1 → is_header (get_or header 0 []) ≡ true
-    → IfSome left' (λ records. Agrees outcome (sum_outcome (sum_from (pos 0) 1 records)))
-    → IfSome left (λ records. Agrees outcome (sum_outcome (native_sum records)))
-header_good outcome None left' header t some one h told = tt
-header_good outcome (Some records) None header t some one h told = absurd t
-header_good outcome (Some records) (Some rest) [] t some one h told = absurd (omega arith)
-header_good outcome (Some records) (Some rest) (fields ∷ []) t some one h told =
-    let same : native_sum records ≡ sum_from (pos 0) 1 rest = ap native_sum t ∙ rw h refl in
-    subst (λ sum. Agrees outcome (sum_outcome sum)) (sym same) told
-header_good outcome (Some records) (Some rest) (fields ∷ more ∷ others) t some one h told = absurd (omega arith)
+pub follows_end : (store : SeenStore) (place : ℕ) (begun left : Option (List Fields)) (sum : ℤ) (row : ℕ)
+    → Follows store place begun left sum row → NoneLeft left → IfSome begun (λ records. sum_from store place (pos 0) 1 records ≡ Ok sum)
+follows_end store place None left sum row f n = tt
+follows_end store place (Some records) None sum row f n = absurd f
+follows_end store place (Some records) (Some rest) sum row f n = f ∙ ap (sum_from store place sum row) n
 
 -- the sum is known, where the records are
-pub agrees_sum : (left : Option (List Fields)) (sum : List Fields → Result ℤ ColumnFault) (found : Result ℤ ColumnFault)
-    → IfSome left (λ records. sum records ≡ found) → IfSome left (λ records. Agrees (sum_outcome found) (sum_outcome (sum records)))
-agrees_sum None sum found p = tt
-agrees_sum (Some records) sum (Ok n) p = ap sum_outcome (sym p)
-agrees_sum (Some records) sum (Err fault.NotBuilt) p = ap sum_outcome (sym p)
-agrees_sum (Some records) sum (Err (fault.NotANumber row)) p = ap sum_outcome (sym p)
+pub agrees_sum : (store : SeenStore) (place line : ℕ) (left : Option (List Fields)) (found : Result ℤ ReadingFault)
+    → IfSome left (λ records. sum_from store place (pos 0) 1 records ≡ found)
+    → IfSome left (λ records. Agrees (rest_outcome line found) (rest_outcome line (sum_from store place (pos 0) 1 records)))
+agrees_sum store place line None found p = tt
+agrees_sum store place line (Some records) (Ok n) p = ap (rest_outcome line) (sym p)
+agrees_sum store place line (Some records) (Err f) p = ap (rest_outcome line) (sym p)
 
 -- an outcome that may stand for any agrees with the sum
-pub agrees_any : (left : Option (List Fields)) (outcome : Outcome) (sum : List Fields → Result ℤ ColumnFault) → ((due : Outcome) → Agrees outcome due)
-    → IfSome left (λ records. Agrees outcome (sum_outcome (sum records)))
+pub agrees_any : (left : Option (List Fields)) (outcome : Outcome) (sum : List Fields → Outcome) → ((due : Outcome) → Agrees outcome due)
+    → IfSome left (λ records. Agrees outcome (sum records))
 agrees_any None outcome sum h = tt
-agrees_any (Some records) outcome sum h = h (sum_outcome (sum records))
-
--- one row more of a block, in the clamp's words: the sum after it, and the row that comes next
-pub place_step : (sum next v : ℤ) (row place : ℕ) (records : List Fields) (total : Result ℤ ColumnFault) → place < length records
-    → record_number (row + place) (get_or records place []) ≡ Ok v → next ≡ nearest (negsuc 32767) (pos 32767) (sum +ℤ v)
-    → sum_from sum (row + place) (drop place records) ≡ total → sum_from next (row + (place + 1)) (drop (place + 1) records) ≡ total
-place_step sum next v row place records total here number e before =
-    let split : drop place records ≡ get_or records place [] ∷ drop (place + 1) records = rw add-one (drop-cons records place [] here) in
-    let row_is : row + (place + 1) ≡ row + place + 1 = omega arith in
-    ap (λ r. sum_from next r (drop (place + 1) records)) row_is ∙ ap (λ m. sum_from m (row + place + 1) (drop (place + 1) records)) e
-    ∙ sym (sum_from-cons sum v (row + place) (get_or records place []) (drop (place + 1) records) number)
-    ∙ sym (ap (sum_from sum (row + place)) split) ∙ before
-
--- a row without a number
-pub place_bad : (sum : ℤ) (row place : ℕ) (records : List Fields) (total : Result ℤ ColumnFault) (f : ColumnFault) → place < length records
-    → record_number (row + place) (get_or records place []) ≡ Err f → sum_from sum (row + place) (drop place records) ≡ total → Err f ≡ total
-place_bad sum row place records total f here number before =
-    let split : drop place records ≡ get_or records place [] ∷ drop (place + 1) records = rw add-one (drop-cons records place [] here) in
-    sym (sum_from-bad sum (row + place) f (get_or records place []) (drop (place + 1) records) number) ∙ sym (ap (sum_from sum (row + place)) split) ∙ before
+agrees_any (Some records) outcome sum h = h (sum records)

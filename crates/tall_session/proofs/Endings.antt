@@ -2,14 +2,15 @@
 use Rattle.std.proofs.Common.{ℕ, ◌≡◌, ◌≢◌, ◌⊎◌, List, [], inl, inr, subst, sym, refl, rules, take}
 use Rattle.std.specs.Io.KnownBytes.{Appends}
 use Rattle.tall_outside.specs.Count.{Rose}
+use Rattle.tall_store.specs.Causes.{Counts}
 use Rattle.tall_session.specs.Answer.{Answer, IsSettled, Shows, ShowsAll, Written, shown}
 use Rattle.std.specs.Prelude.{Option, Some, None, IfSome}
 use Rattle.tall_outside.specs.Shelf.{Files}
-use Rattle.tall_session.specs.Evaluation.{Agrees, Counts, IsExplained, Prints, WithinLimit, answer, outcome_of, script_name}
+use Rattle.tall_session.specs.Evaluation.{Agrees, IsExplained, Prints, WithinLimit, answer, outcome_of, script_name}
 use Rattle.tall_session.specs.declared.outcome.Status.{Status}
 use Rattle.tall_session.specs.declared.outcome.Status.TheVariants as status
 use Rattle.tall_session.specs.declared.outcome.Outcome.{Outcome}
-use Rattle.tall_session.specs.declared.outcome.Outcome.TheVariants.{Sum, Usage, NoScript, NoData, NotBuilt, NotANumber, CannotReadScript, CannotReadData, DataTooLarge, Memory}
+use Rattle.tall_session.specs.declared.outcome.Outcome.TheVariants.{Nothing, Sum, Usage, Fault, CannotReadScript, CannotReadData, DataTooLarge, Memory}
 
 all_shown : (answer : Answer) (how : Status) (before after : Written) → Shows answer how before after → IsSettled how → ShowsAll answer how before after
 all_shown answer how before after shows settled = elim shows.ending [
@@ -30,10 +31,8 @@ settles due outcome name how before after agrees shows settled = by_outcome outc
     by_outcome Memory a all = absurd (subst IsSettled all.0 settled)
     by_outcome (Sum n) a all = subst (λ o. ShowsAll (shown name o) how before after) a all
     by_outcome Usage a all = subst (λ o. ShowsAll (shown name o) how before after) a all
-    by_outcome NoScript a all = subst (λ o. ShowsAll (shown name o) how before after) a all
-    by_outcome NoData a all = subst (λ o. ShowsAll (shown name o) how before after) a all
-    by_outcome NotBuilt a all = subst (λ o. ShowsAll (shown name o) how before after) a all
-    by_outcome (NotANumber row) a all = subst (λ o. ShowsAll (shown name o) how before after) a all
+    by_outcome (Fault f) a all = subst (λ o. ShowsAll (shown name o) how before after) a all
+    by_outcome Nothing a all = subst (λ o. ShowsAll (shown name o) how before after) a all
 
 -- where nothing failed and no file is too long, what is due was shown, unless memory was wanting
 pub completes : (due outcome : Outcome) (name : List ℕ) (how : Status) (before after : Written) (counts counts' : Counts) → Agrees outcome due
@@ -54,10 +53,8 @@ completes due outcome name how before after counts counts' agrees fits explained
     by_outcome Memory a f x all = inl all.0
     by_outcome (Sum n) a f x all = inr (subst (λ o. ShowsAll (shown name o) how before after) a all)
     by_outcome Usage a f x all = inr (subst (λ o. ShowsAll (shown name o) how before after) a all)
-    by_outcome NoScript a f x all = inr (subst (λ o. ShowsAll (shown name o) how before after) a all)
-    by_outcome NoData a f x all = inr (subst (λ o. ShowsAll (shown name o) how before after) a all)
-    by_outcome NotBuilt a f x all = inr (subst (λ o. ShowsAll (shown name o) how before after) a all)
-    by_outcome (NotANumber row) a f x all = inr (subst (λ o. ShowsAll (shown name o) how before after) a all)
+    by_outcome (Fault fault) a f x all = inr (subst (λ o. ShowsAll (shown name o) how before after) a all)
+    by_outcome Nothing a f x all = inr (subst (λ o. ShowsAll (shown name o) how before after) a all)
 
 take_none : (n : ℕ) → take {A = ℕ} n [] ≡ []
 take_none n = search rules
@@ -78,10 +75,8 @@ is_front due outcome name how before after prints shows = by_outcome outcome pri
     by_outcome DataTooLarge a p = none p
     by_outcome Memory a p = none p
     by_outcome Usage a p = none p
-    by_outcome NoScript a p = none p
-    by_outcome NoData a p = none p
-    by_outcome NotBuilt a p = none p
-    by_outcome (NotANumber row) a p = none p
+    by_outcome (Fault f) a p = none p
+    by_outcome Nothing a p = none p
 
 -- the clauses of the run, over a shelf that may tell what it holds
 pub run_completes : {P Q : Type 0} (held : Option Files) (words : List (List ℕ)) (outcome : Outcome) (name : List ℕ) (how : Status)

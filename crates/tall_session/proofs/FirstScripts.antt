@@ -5,8 +5,9 @@ use Rattle.std.specs.Str.{bytes_eq}
 use Rattle.std.specs.Io.KnownBytes.{Consumes, IsAtEnd}
 use Rattle.std.proofs.lemmas.Slice.Eq.{bytes_eq-Decides}
 use Rattle.tall_outside.specs.Shelf.{Files, file_in}
-use Rattle.tall_session.specs.FirstScript.{data_name, first_script, is_first_script}
-use Rattle.tall_session.specs.Evaluation.{data_outcome, script_outcome}
+use Rattle.tall_session.specs.FirstScript.{first_lines, first_script, is_first_script}
+use Rattle.tall_session.specs.Data.{data_outcome}
+use Rattle.tall_session.specs.Evaluation.{script_outcome}
 use Rattle.tall_session.specs.declared.outcome.Outcome.{Outcome}
 
 either : (a b : Bool) → (a || b) ≡ true → (a ≡ true) ⊎ (b ≡ true)
@@ -33,12 +34,12 @@ is_script bytes front (Some rest) read ends h =
 pub script_told : (P : Files → Outcome → Type 0) (held : Option Files) (name front : List ℕ) (left left' : Option (List ℕ))
     → IfSome held (λ files. IsSomeAnd (file_in files name) (λ bytes. left ≡ Some bytes))
     → Consumes left left' front → (length front < 256 → IsAtEnd left') → is_first_script front ≡ true
-    → IfSome held (λ files. P files (data_outcome (file_in files data_name)))
+    → IfSome held (λ files. P files (data_outcome files first_lines))
     → IfSome held (λ files. P files (script_outcome files (file_in files name)))
 script_told P None name front left left' opened read ends h told = tt
 script_told P (Some files) name front left left' opened read ends h told = from_file (file_in files name) opened told
   where
-    from_file : (file : Option (List ℕ)) → IsSomeAnd file (λ bytes. left ≡ Some bytes) → P files (data_outcome (file_in files data_name))
+    from_file : (file : Option (List ℕ)) → IsSomeAnd file (λ bytes. left ≡ Some bytes) → P files (data_outcome files first_lines)
         → P files (script_outcome files file)
     from_file None o t = absurd o
     from_file (Some bytes) o t = rw (is_script bytes front left' (subst (λ l. Consumes l left' front) o read) ends h) t

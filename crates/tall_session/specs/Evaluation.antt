@@ -1,15 +1,17 @@
 -- What words over files come to: docs/LANGUAGE.md, "Commands".
-use Rattle.std.specs.Prelude.{List, ℕ, ℤ, Option, Some, None, Result, Ok, Err, [], ◌∷◌, ◌≤◌, ◌<◌, ◌^◌, ◌≡◌, length, if◌then◌else◌, IfSome, unwrap_or}
+use Rattle.std.specs.Prelude.{List, ℕ, Option, Some, None, [], ◌∷◌, ◌≤◌, ◌<◌, ◌^◌, ◌≡◌, length, IfSome, unwrap_or, if◌then◌else◌}
 use Rattle.tall_outside.specs.Shelf.{Files, file_in}
 use Rattle.tall_outside.specs.Count.{Rose}
-use Rattle.tall_cut.specs.Rows.{file_records}
-use Rattle.tall_session.specs.FirstScript.{is_first_script, data_name}
-use Rattle.tall_session.specs.Column.{native_sum}
-use Rattle.tall_session.specs.declared.column.ColumnFault.{ColumnFault}
-use Rattle.tall_session.specs.declared.column.ColumnFault.TheVariants as fault
+use Rattle.tall_store.specs.Causes.{Counts}
+use Rattle.tall_store.specs.declared.faults.ReadingKind.{ReadingKind}
+use Rattle.tall_store.specs.declared.faults.ReadingKind.TheVariants as kind
+use Rattle.tall_session.specs.FirstScript.{first_lines, is_first_script}
+use Rattle.tall_session.specs.Data.{data_outcome}
 use Rattle.tall_session.specs.Answer.{Answer, shown}
+use Rattle.tall_session.specs.declared.outcome.Fault as f
+use Rattle.tall_session.specs.declared.outcome.Fault.TheVariants as fault
 use Rattle.tall_session.specs.declared.outcome.Outcome.{Outcome}
-use Rattle.tall_session.specs.declared.outcome.Outcome.TheVariants.{Sum, Usage, NoScript, NoData, NotBuilt, NotANumber, CannotReadScript, CannotReadData, DataTooLarge, Memory}
+use Rattle.tall_session.specs.declared.outcome.Outcome.TheVariants.{Nothing, Sum, Usage, Fault, CannotReadScript, CannotReadData, DataTooLarge, Memory}
 
 -- the script that the words name: the second of two words
 abbrev pub command : List (List ℕ) → Option (List ℕ)
@@ -18,25 +20,12 @@ command (program ∷ []) = None
 command (program ∷ script ∷ []) = Some script
 command (program ∷ script ∷ more ∷ words) = None
 
--- of a sum, or of the reason why there is none
-abbrev pub sum_outcome : Result ℤ ColumnFault → Outcome
-sum_outcome (Ok n) = Sum n
-sum_outcome (Err fault.NotBuilt) = NotBuilt
-sum_outcome (Err (fault.NotANumber row)) = NotANumber row
+-- ---- outcomes
 
--- the byte between two fields
-abbrev pub comma : ℕ
-comma = 44
-
--- of the data file: the native sum of its records
-abbrev pub data_outcome : Option (List ℕ) → Outcome
-data_outcome None = NoData
-data_outcome (Some bytes) = sum_outcome (native_sum (file_records comma bytes))
-
--- of the script's file
+-- of the script's file, which is there or not
 abbrev pub script_outcome : Files → Option (List ℕ) → Outcome
-script_outcome files None = NoScript
-script_outcome files (Some bytes) = if is_first_script bytes then data_outcome (file_in files data_name) else NotBuilt
+script_outcome files None = Fault fault.NoScript
+script_outcome files (Some bytes) = if is_first_script bytes then data_outcome files first_lines else Fault fault.NotBuilt
 
 -- of the words
 abbrev pub command_outcome : Files → Option (List ℕ) → Outcome
@@ -58,6 +47,8 @@ answer files words = shown (script_name words) (outcome_of files words)
 abbrev pub WithinLimit : Files → Type 0
 WithinLimit files = (name : List ℕ) → IfSome (file_in files name) (λ bytes. length bytes ≤ 2 ^ 50)
 
+-- ---- outcomes of a run, and what is due
+
 -- an outcome is the due one, or one that a failure of the outside or want of memory gives in its stead
 abbrev pub Agrees : Outcome → Outcome → Type 0
 Agrees CannotReadScript due = Unit {0}
@@ -76,17 +67,20 @@ abbrev pub IsSum : Outcome → Type 0
 IsSum (Sum n) = Unit {0}
 IsSum outcome = ⊥
 
--- what a shelf counted, before and after a run: names that it missed and calls that failed, and the bytes that came of
--- the file that was opened last
-pub record Counts : Type 0 where
-  pub misses : ℕ
-  pub faults : ℕ
-  pub came : ℕ
+-- a missing file is counted
+abbrev pub IsMissed : ReadingKind → Counts → Counts → Type 0
+IsMissed kind.NoFile before after = Rose before.misses after.misses
+IsMissed k before after = Unit {0}
+
+abbrev pub IsFaultExplained : f.Fault → Counts → Counts → Type 0
+IsFaultExplained fault.NoScript before after = Rose before.misses after.misses
+IsFaultExplained (fault.NoFile line) before after = Rose before.misses after.misses
+IsFaultExplained (fault.Reading line row k) before after = IsMissed k before after
+IsFaultExplained other before after = Unit {0}
 
 -- the counts that an outcome blames have risen
 abbrev pub IsExplained : Outcome → Counts → Counts → Type 0
-IsExplained NoScript before after = Rose before.misses after.misses
-IsExplained NoData before after = Rose before.misses after.misses
+IsExplained (Fault other) before after = IsFaultExplained other before after
 IsExplained CannotReadScript before after = Rose before.faults after.faults
 IsExplained CannotReadData before after = Rose before.faults after.faults
 IsExplained DataTooLarge before after = 2 ^ 50 < after.came

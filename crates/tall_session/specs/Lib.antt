@@ -1,10 +1,10 @@
 pub mod FirstScript
+pub mod Tasks
 pub mod Status
 pub mod Answer
-pub mod Column
-pub mod ColumnRows
-pub mod Openings
-pub mod OpeningsRows
+pub mod Data
 pub mod Evaluation
-pub mod Counts
+pub mod Blocks
+pub mod Openings
 pub mod AnswerRows
+pub mod OpeningsRows

@@ -12,9 +12,14 @@ Adds more (Some names) (Some all) = all ≡ names ++ more
 abbrev pub OpensOnce : List ℕ → Option (List (List ℕ)) → Option (List (List ℕ)) → Type 0
 OpensOnce name before now = Adds [] before now ⊎ Adds (name ∷ []) before now
 
--- none was opened, or the script, or the script and then the data file
+-- a name was opened twice at most
+abbrev pub OpensTwice : List ℕ → Option (List (List ℕ)) → Option (List (List ℕ)) → Type 0
+OpensTwice name before now = Adds [] before now ⊎ Adds (name ∷ []) before now ⊎ Adds (name ∷ name ∷ []) before now
+
+-- none was opened, or the script, and then the data file, by the datastore's call and by the gather
 abbrev pub OpensInTurn : List ℕ → Option (List (List ℕ)) → Option (List (List ℕ)) → Type 0
-OpensInTurn script before now = Adds [] before now ⊎ Adds (script ∷ []) before now ⊎ Adds (script ∷ data_name ∷ []) before now
+OpensInTurn script before now =
+    Adds [] before now ⊎ Adds (script ∷ []) before now ⊎ Adds (script ∷ data_name ∷ []) before now ⊎ Adds (script ∷ data_name ∷ data_name ∷ []) before now
 
 -- the openings of a run, by the script that its words name
 abbrev pub RunOpens : Option (List ℕ) → Option (List (List ℕ)) → Option (List (List ℕ)) → Type 0

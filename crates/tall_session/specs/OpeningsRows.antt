@@ -12,9 +12,13 @@ no_script = refl
 script_alone : RunOpens (Some (codes "a.m")) (Some []) (Some (codes "a.m" ∷ []))
 script_alone = inr (inl refl)
 
--- the script, and then its data
+-- the script, and then its data for the datastore's call alone
 script_and_data : RunOpens (Some (codes "a.m")) (Some (codes "b.m" ∷ [])) (Some (codes "b.m" ∷ codes "a.m" ∷ data_name ∷ []))
-script_and_data = inr (inr refl)
+script_and_data = inr (inr (inl refl))
+
+-- and once more for the gather
+data_twice : RunOpens (Some (codes "a.m")) (Some (codes "b.m" ∷ [])) (Some (codes "b.m" ∷ codes "a.m" ∷ data_name ∷ data_name ∷ []))
+data_twice = inr (inr (inr refl))
 
 -- a shelf that tells nothing
 untold : RunOpens (Some (codes "a.m")) None None

@@ -2,11 +2,12 @@
 #![tactic(auto)]
 
 mod column;
+mod data;
 mod evaluate;
 mod outcome;
 mod program;
 mod script;
 mod show;
 
-pub use outcome::{Outcome, Status};
+pub use outcome::{Fault, Outcome, Status};
 pub use program::run;

@@ -3,6 +3,8 @@
 ghost use Rattle.std.specs.Prelude.{◌≡◌};
 ghost use Rattle.tall_session.specs.Status.{code_of};
 
+use tall_store::ReadingKind;
+
 /// How a run ended.
 #[derive(Clone, Copy, Debug, PartialEq, Eq)]
 pub enum Status {
@@ -36,21 +38,64 @@ impl Status {
     }
 }
 
+/// A fault of the script or of its data, which ends a run with a line of its own (docs/LANGUAGE.md, "Fault lines").
+/// Lines and places count from 1, and so do rows.
+#[derive(Clone, Copy, Debug, PartialEq, Eq)]
+pub enum Fault {
+    /// The script isn't there.
+    NoScript,
+    /// The script has more than 1,048,576 bytes.
+    TooLong,
+    /// The script's first bad token.
+    BadToken {
+        line: u32,
+        place: u32,
+    },
+    /// Brackets and blocks, or an expression, above 64.
+    TooDeep {
+        line: u32,
+    },
+    /// No script goes on with the token on this line.
+    Syntax {
+        line: u32,
+    },
+    /// The script is none that is built yet.
+    NotBuilt,
+    /// The options of the datastore are not accepted.
+    BadArgument {
+        line: u32,
+    },
+    /// The datastore's first file isn't there.
+    NoFile {
+        line: u32,
+    },
+    /// The datastore's first file has no record, or its header isn't UTF-8.
+    NoHeader {
+        line: u32,
+    },
+    /// The table has no variable x.
+    Undefined {
+        line: u32,
+    },
+    /// The first reading fault of the datastore.
+    Reading {
+        line: u32,
+        row: u64,
+        kind: ReadingKind,
+    },
+}
+
 /// What a run comes to, before any of it is shown.
 #[derive(Clone, Copy, Debug, PartialEq, Eq)]
 pub enum Outcome {
+    /// The script has no statement, so nothing is shown.
+    Nothing,
     /// The native sum of the column.
     Sum(i16),
     /// The words are not the command's.
     Usage,
-    /// The script isn't there.
-    NoScript,
-    /// The script's data file isn't there.
-    NoData,
-    /// A script or data that isn't built yet.
-    NotBuilt,
-    /// The field of this row, counted from 1, spells no number.
-    NotANumber(u64),
+    /// The script or its data has a fault.
+    Fault(Fault),
     /// A call on the script's file failed.
     CannotReadScript,
     /// A call on the data file failed.

@@ -18,6 +18,20 @@ pub fn is_first_script(bytes: &[u8]) -> bool
     bytes == FIRST_SCRIPT || bytes == &FIRST_SCRIPT[..FIRST_SCRIPT.len() - 1]
 }
 
+/// The lines of the statements that can have a fault, from 1: that of the datastore's call, and the one that names the
+/// variable.
+#[derive(Clone, Copy)]
+pub(crate) struct Lines {
+    pub(crate) opening: u32,
+    pub(crate) variable: u32,
+}
+
+/// The lines of the script that runs today.
+pub(crate) const FIRST_LINES: Lines = Lines {
+    opening: 1,
+    variable: 3,
+};
+
 /// Reads the open file from where it stands, until the buffer is full or the file ends.
 ///
 /// Answers how many bytes it put at the buffer's front; fewer than the buffer has only at the end of the file.

@@ -3,11 +3,12 @@
 ghost use Rattle.std.specs.Prelude.{◌≡◌, ℕ, ◌≤◌, ◌⊎◌, [], take, string_bytes, IfOk, OnOk};
 ghost use Rattle.std.specs.Io.KnownBytes.{Appends};
 ghost use Rattle.tall_outside.specs.Count.{Rose};
-ghost use Rattle.tall_session.specs.Answer.{Shows, cannot_write, out_of_memory, shown};
+ghost use Rattle.tall_session.specs.Answer.{Shows, cannot_write, fault_line, out_of_memory, shown};
 
-use crate::outcome::{Outcome, Status};
+use crate::outcome::{Fault, Outcome, Status};
 use std::alloc::{AllocError, Global};
 use tall_outside::{Sink, WriteFault};
+use tall_store::ReadingKind;
 
 /// Writes a text until all of it is taken.
 ///
@@ -39,21 +40,67 @@ fn text_of(alloc: Global, outcome: Outcome) -> Result<String, AllocError>
     }
 }
 
-/// The line that an outcome gives, and nothing of a sum.
+/// The line of the first reading fault of the datastore that is made on this line.
+fn reading_line(alloc: Global, line: u32, row: u64, kind: ReadingKind) -> Result<String, AllocError>
+    ensures { IfOk result (λ text. string_bytes text ≡ fault_line [] (Fault.Reading line row kind)) }
+{
+    match kind {
+        ReadingKind::NoFile => format!(in alloc; "tallrun: line {line}: no file a.csv\n"),
+        ReadingKind::HeaderDiffers => {
+            format!(in alloc; "tallrun: line {line}: header differs in a.csv\n")
+        }
+        ReadingKind::TooManyRows => format!(in alloc; "tallrun: line {line}: too many rows\n"),
+        ReadingKind::TooManyFields => {
+            format!(in alloc; "tallrun: line {line}: row {row}: too many fields\n")
+        }
+        ReadingKind::BadField => {
+            format!(in alloc; "tallrun: line {line}: row {row}: variable x: not a number\n")
+        }
+        ReadingKind::BadText => {
+            format!(in alloc; "tallrun: line {line}: row {row}: variable x: not UTF-8\n")
+        }
+        ReadingKind::NotWhole => {
+            format!(in alloc; "tallrun: line {line}: row {row}: variable x: not a whole number\n")
+        }
+        ReadingKind::Inexact => {
+            format!(in alloc; "tallrun: line {line}: row {row}: variable x: above 2^53\n")
+        }
+    }
+}
+
+/// The line of a fault. The name is the script's.
+fn fault_line(alloc: Global, fault: Fault, name: &str) -> Result<String, AllocError>
+    ensures { IfOk result (λ text. string_bytes text ≡ fault_line name.now fault) }
+{
+    match fault {
+        Fault::NoScript => format!(in alloc; "tallrun: no file {name}\n"),
+        Fault::TooLong => String::from_str(alloc, "tallrun: script above 1048576 bytes\n"),
+        Fault::BadToken { line, place } => {
+            format!(in alloc; "tallrun: line {line}: bad token at {place}\n")
+        }
+        Fault::TooDeep { line } => format!(in alloc; "tallrun: line {line}: nested above 64\n"),
+        Fault::Syntax { line } => format!(in alloc; "tallrun: line {line}: syntax\n"),
+        Fault::NotBuilt => String::from_str(alloc, "tallrun: not built\n"),
+        Fault::BadArgument { line } => {
+            format!(in alloc; "tallrun: line {line}: argument not accepted\n")
+        }
+        Fault::NoFile { line } => format!(in alloc; "tallrun: line {line}: no file a.csv\n"),
+        Fault::NoHeader { line } => format!(in alloc; "tallrun: line {line}: no header in a.csv\n"),
+        Fault::Undefined { line } => format!(in alloc; "tallrun: line {line}: undefined x\n"),
+        Fault::Reading { line, row, kind } => reading_line(alloc, line, row, kind),
+    }
+}
+
+/// The line that an outcome gives, and nothing of one that is shown on the standard output.
 fn line_of(alloc: Global, outcome: Outcome, name: &str) -> Result<String, AllocError>
     ensures { IfOk result (λ line. string_bytes line ≡ (shown name.now outcome).line) }
 {
     match outcome {
-        Outcome::Sum(_) => Ok(String::new(alloc)),
+        Outcome::Nothing | Outcome::Sum(_) => Ok(String::new(alloc)),
         Outcome::Usage => {
             String::from_str(alloc, "tallrun: usage: tallrun [--workers N] SCRIPT\n")
         }
-        Outcome::NoScript => format!(in alloc; "tallrun: no file {name}\n"),
-        Outcome::NoData => String::from_str(alloc, "tallrun: line 1: no file a.csv\n"),
-        Outcome::NotBuilt => String::from_str(alloc, "tallrun: not built\n"),
-        Outcome::NotANumber(row) => {
-            format!(in alloc; "tallrun: line 1: row {row}: variable x: not a number\n")
-        }
+        Outcome::Fault(fault) => fault_line(alloc, fault, name),
         Outcome::CannotReadScript => format!(in alloc; "tallrun: cannot read {name}\n"),
         Outcome::CannotReadData => String::from_str(alloc, "tallrun: cannot read a.csv\n"),
         Outcome::DataTooLarge => {
@@ -68,11 +115,9 @@ fn status_of(outcome: Outcome) -> Status
     ensures { result ≡ (shown [] outcome).status }
 {
     match outcome {
-        Outcome::Sum(_) => Status::Done,
+        Outcome::Nothing | Outcome::Sum(_) => Status::Done,
         Outcome::Usage => Status::Usage,
-        Outcome::NoScript | Outcome::NoData | Outcome::NotBuilt | Outcome::NotANumber(_) => {
-            Status::Fault
-        },
+        Outcome::Fault(_) => Status::Fault,
         Outcome::CannotReadScript | Outcome::CannotReadData | Outcome::DataTooLarge => Status::Read,
         Outcome::Memory => Status::Memory,
     }

@@ -1,5 +1,5 @@
 -- The first fault of some records, variable by variable.
-use Rattle.std.proofs.Common.{ℕ, ◌≡◌, ◌∙◌, ◌<◌, ◌≤◌, ◌+◌, ◌^◌, List, [], ◌∷◌, ◌++◌, Bool, true, false, Option, Some, None, sym, ap, refl, arith, leb}
+use Rattle.std.proofs.Common.{ℕ, ◌≡◌, ◌∙◌, ◌^◌, List, [], ◌∷◌, ◌++◌, false, Option, Some, None, sym, ap, refl, leb}
 use Rattle.std.specs.List.{filter_map, flat_map, cons_option}
 use Rattle.std.specs.Result.{result_err}
 use Rattle.tall_store.specs.declared.faults.ReadingFault.{ReadingFault}
@@ -49,17 +49,17 @@ none_flat (x ∷ xs) = none_flat xs
 -- the faults of fields, in either order
 pub by_column : (store : SeenStore) (records : List DataRecord) (fault : Option ReadingFault) (places : List ℕ)
     → earlier_of fault (first_reading_fault (flat_map (λ r. filter_map (λ place. result_err (value_at store place r)) places) records))
-        ≡ first_of_columns store records fault places
+    ≡ first_of_columns store records fault places
 by_column store records fault [] = ap (λ fs. earlier_of fault (first_reading_fault fs)) (none_flat records) ∙ earlier_none fault
 by_column store records fault (place ∷ places) =
     let rest : DataRecord → List ReadingFault = λ r. filter_map (λ p. result_err (value_at store p r)) places in
     let here : DataRecord → List ReadingFault = λ r. cons_option (result_err (value_at store place r)) [] in
     ap (λ fs. earlier_of fault (first_reading_fault fs))
-      (same_flat (λ r. filter_map (λ p. result_err (value_at store p r)) (place ∷ places)) (λ r. here r ++ rest r)
-        (λ r. ones (result_err (value_at store place r)) (rest r)) records)
+    (same_flat (λ r. filter_map (λ p. result_err (value_at store p r)) (place ∷ places)) (λ r. here r ++ rest r)
+    (λ r. ones (result_err (value_at store place r)) (rest r)) records)
     ∙ ap (λ a. earlier_of fault a) (first_both here rest records)
     ∙ ap (λ fs. earlier_of fault (earlier_of (first_reading_fault fs) (first_reading_fault (flat_map rest records))))
-        (sym (as_flat (λ r. result_err (value_at store place r)) records))
+    (sym (as_flat (λ r. result_err (value_at store place r)) records))
     ∙ sym (earlier_assoc fault (first_reading_fault (column_faults store records place)) (first_reading_fault (flat_map rest records)))
     ∙ by_column store records (earlier_of fault (first_reading_fault (column_faults store records place))) places
 
@@ -77,7 +77,7 @@ few_flat store (r ∷ records) e =
 -- of records with rows below 2^40
 pub first_by_column : (store : SeenStore) (records : List DataRecord) → Each (λ r. leb (2 ^ 40) r.row ≡ false) records
     → first_reading_fault (flat_map (record_faults store) records)
-        ≡ first_of_columns store records (first_width_fault store records) store.selected
+    ≡ first_of_columns store records (first_width_fault store records) store.selected
 first_by_column store records e =
     ap first_reading_fault (few_flat store records e)
     ∙ first_both (width_faults store) (λ r. filter_map (λ place. result_err (value_at store place r)) store.selected) records

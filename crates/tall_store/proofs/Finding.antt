@@ -1,5 +1,5 @@
 -- Loops that look for a name, and that compare two records.
-use Rattle.std.proofs.Common.{ℕ, suc, ◌≡◌, ◌∙◌, ◌<◌, ◌≤◌, ◌+◌, List, [], ◌∷◌, Bool, true, false, Option, Some, None, sym, ap, subst, refl, arith, length, get_or, map, drop}
+use Rattle.std.proofs.Common.{ℕ, suc, ◌≡◌, ◌∙◌, ◌<◌, ◌+◌, List, [], ◌∷◌, Bool, true, false, Option, Some, None, sym, ap, subst, refl, length, get_or, map, drop}
 use Rattle.std.specs.Prelude.{◌&&◌, ◌≢◌, if◌then◌else◌}
 use Rattle.std.specs.List.{position_from}
 use Rattle.std.specs.Str.{bytes_eq}
@@ -60,4 +60,4 @@ same_not fs gs k due l m b e = sym (same_step fs gs k l m ∙ ap (λ t. t && sam
 pub same_all : (fs gs : Fields) (n : ℕ) (due : Bool) → length fs ≡ n → length gs ≡ n → same_from fs gs n ≡ due → true ≡ due
 same_all fs gs n due l m e =
     sym (ap (λ xs. is_same_record xs (drop n gs)) (subst (λ k. drop k fs ≡ []) l (drop-length fs))
-      ∙ ap (λ ys. is_same_record [] ys) (subst (λ k. drop k gs ≡ []) m (drop-length gs))) ∙ e
+    ∙ ap (λ ys. is_same_record [] ys) (subst (λ k. drop k gs ≡ []) m (drop-length gs))) ∙ e

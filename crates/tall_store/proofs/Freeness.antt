@@ -1,7 +1,7 @@
 -- Names of variables: numbers in names tell them apart, so one of n + 1 suffixes is free where n names are taken.
 use Rattle.std.proofs.Common.{ℕ, zero, suc, ◌≡◌, ◌∙◌, ◌<◌, ◌≤◌, ◌+◌, ◌^◌, List, [], ◌∷◌, ◌++◌, Bool, true, false, sym, ap, subst, refl, arith, length, get_or, map, drop}
-use Rattle.std.specs.Prelude.{◌-◌, ◌||◌, if◌then◌else◌, codes}
-use Rattle.std.specs.List.{AllByRecursion, IsDistinct, list_any, range_with_len}
+use Rattle.std.specs.Prelude.{◌||◌, if◌then◌else◌, codes}
+use Rattle.std.specs.List.{AllByRecursion, IsDistinct, range_with_len}
 use Rattle.std.specs.Set.{is_member}
 use Rattle.std.specs.Str.{bytes_eq}
 use Rattle.std.specs.Fmt.{decimal}
@@ -73,7 +73,7 @@ taken_names fields earlier name (k ∷ ks) a q e = by_test (taken_names fields e
     by_test rest false b e = rest e
     by_test rest true b e =
         subst (λ w. is_member bytes_eq (fields ++ earlier) w ≡ true) (sym ((bytes_eq-Decides q (suffixed name k)).0 (sym b)))
-          (list_any-append (bytes_eq (suffixed name k)) fields earlier ∙ a.0)
+        (list_any-append (bytes_eq (suffixed name k)) fields earlier ∙ a.0)
 
 pub suffix_free : (fields earlier : List (List ℕ)) (name : List ℕ) → length fields < 2 ^ 20 → length earlier < 2 ^ 20
     → is_suffix_taken fields earlier name (suffix_of fields earlier name) ≡ false
@@ -81,15 +81,16 @@ suffix_free fields earlier name l m = by_test (is_suffix_taken fields earlier na
   where
     too_many : (n k : ℕ) → n ≡ k → suc k ≤ n → ⊥
     too_many n k e l = omega arith
+
     by_test : (b : Bool) → b ≡ is_suffix_taken fields earlier name (suffix_of fields earlier name) → is_suffix_taken fields earlier name (suffix_of fields earlier name) ≡ false
     by_test false e = sym e
     by_test true e =
         let n : ℕ = length fields + length earlier in
         let names : List (List ℕ) = map (suffixed name) (range_with_len 1 (suc n)) in
         absurd (too_many (length (fields ++ earlier)) n (length-append fields earlier)
-          (subst (λ k. k ≤ length (fields ++ earlier)) (length-map-range_with_len (suffixed name) 1 (suc n))
-            (length-le_from_is_member bytes_laws names (fields ++ earlier) (distinct_range (suffixed name) (suffixed_apart name) 1 (suc n) (omega arith))
-              (taken_names fields earlier name (range_with_len 1 (suc n)) (all_taken (is_suffix_taken fields earlier name) n 1 (sym e))))))
+        (subst (λ k. k ≤ length (fields ++ earlier)) (length-map-range_with_len (suffixed name) 1 (suc n))
+        (length-le_from_is_member bytes_laws names (fields ++ earlier) (distinct_range (suffixed name) (suffixed_apart name) 1 (suc n) (omega arith))
+        (taken_names fields earlier name (range_with_len 1 (suc n)) (all_taken (is_suffix_taken fields earlier name) n 1 (sym e))))))
 
 pub fresh_suffix : (fields earlier : List (List ℕ)) (name : List ℕ) → length fields < 2 ^ 20 → length earlier < 2 ^ 20
     → has_name earlier (suffixed name (suffix_of fields earlier name)) ≡ false

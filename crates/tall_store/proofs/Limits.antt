@@ -1,5 +1,5 @@
 -- The first fault of a block whose rows may reach 2^40.
-use Rattle.std.proofs.Common.{ℕ, zero, suc, ◌≡◌, ◌∙◌, ◌<◌, ◌≤◌, ◌+◌, ◌^◌, inl, inr, List, [], ◌∷◌, ◌++◌, Bool, true, false, Option, Some, None, Ok, Err, Result, sym, ap, subst, refl, arith, length, get_or, map, take, drop, leb, ltb}
+use Rattle.std.proofs.Common.{ℕ, suc, ◌≡◌, ◌∙◌, ◌<◌, ◌≤◌, ◌+◌, ◌^◌, inl, inr, List, [], ◌∷◌, ◌++◌, Bool, true, false, Option, Some, None, Ok, Err, Result, sym, ap, subst, refl, arith, length, get_or, take, drop, leb, ltb}
 use Rattle.std.specs.List.{filter_map, flat_map, cons_option}
 use Rattle.std.specs.Option.{option_or}
 use Rattle.std.specs.Result.{result_err, result_map_both}
@@ -22,7 +22,7 @@ use Rattle.tall_store.specs.declared.part.Part.{Part}
 use Rattle.tall_store.specs.Stores.{SeenStore, format_at}
 use Rattle.tall_store.specs.Fields.{field_value}
 use Rattle.tall_store.specs.Records.{DataRecord, numbered_records}
-use Rattle.tall_store.specs.ReadingOrder.{earlier_of, first_reading_fault}
+use Rattle.tall_store.specs.ReadingOrder.{first_reading_fault}
 use Rattle.tall_store.specs.Stored.{fault_when, record_faults, unless_fault, value_at, variables_of}
 use Rattle.tall_store.specs.Reads.{Answers, first_of_columns, first_width_fault}
 use Rattle.tall_store.specs.Parts.{part_records}
@@ -38,8 +38,8 @@ pub numbered_append : (file row : ℕ) (xs ys : List Fields)
 numbered_append file row [] ys = ap (λ n. numbered_records file n ys) (omega arith)
 numbered_append file row (fields ∷ xs) ys =
     ap (λ rs. record { file = file; row = row; fields = fields } ∷ rs)
-      (numbered_append file (row + 1) xs ys
-        ∙ ap (λ n. numbered_records file (row + 1) xs ++ numbered_records file n ys) (next (length xs) (length (fields ∷ xs)) refl))
+    (numbered_append file (row + 1) xs ys
+    ∙ ap (λ n. numbered_records file (row + 1) xs ++ numbered_records file n ys) (next (length xs) (length (fields ∷ xs)) refl))
   where
     next : (m n : ℕ) → n ≡ suc m → (row + 1) + m ≡ row + n
     next m n e = omega arith
@@ -59,16 +59,16 @@ value_rows : (store : SeenStore) (r : DataRecord) (places : List ℕ)
 value_rows store r [] = tt
 value_rows store r (place ∷ places) =
     value_row store r place (field_value (format_at store place) store.missing (get_or r.fields place []))
-      (filter_map (λ p. result_err (value_at store p r)) places) (value_rows store r places)
+    (filter_map (λ p. result_err (value_at store p r)) places) (value_rows store r places)
 
 pub record_rows : (store : SeenStore) (r : DataRecord) → Each {X = ReadingFault} (λ f. f.row ≡ r.row) (record_faults store r)
 record_rows store r =
     each_append (λ (f : ReadingFault). f.row ≡ r.row) (fault_when (leb (2 ^ 40) r.row) TooManyRows r.file r.row)
-      (fault_when (ltb (length store.names) (length r.fields)) TooManyFields r.file r.row ++ filter_map (λ place. result_err (value_at store place r)) store.selected)
-      (when_row (leb (2 ^ 40) r.row) TooManyRows r.file r.row)
-      (each_append (λ (f : ReadingFault). f.row ≡ r.row) (fault_when (ltb (length store.names) (length r.fields)) TooManyFields r.file r.row)
-        (filter_map (λ place. result_err (value_at store place r)) store.selected)
-        (when_row (ltb (length store.names) (length r.fields)) TooManyFields r.file r.row) (value_rows store r store.selected))
+    (fault_when (ltb (length store.names) (length r.fields)) TooManyFields r.file r.row ++ filter_map (λ place. result_err (value_at store place r)) store.selected)
+    (when_row (leb (2 ^ 40) r.row) TooManyRows r.file r.row)
+    (each_append (λ (f : ReadingFault). f.row ≡ r.row) (fault_when (ltb (length store.names) (length r.fields)) TooManyFields r.file r.row)
+    (filter_map (λ place. result_err (value_at store place r)) store.selected)
+    (when_row (ltb (length store.names) (length r.fields)) TooManyFields r.file r.row) (value_rows store r store.selected))
 
 pub faults_below : (store : SeenStore) (file row n : ℕ) (records : List Fields) → row + length records ≤ n
     → Each (λ f. f.row < n) (flat_map (record_faults store) (numbered_records file row records))
@@ -84,7 +84,7 @@ faults_after store file row records =
 pub rows_apart : (n : ℕ) (xs ys : List ReadingFault) → Each (λ f. f.row < n) xs → Each (λ g. n ≤ g.row) ys → Each (λ f. Each (IsLater f) ys) xs
 rows_apart n xs ys below above =
     each_weaker (λ f. f.row < n) (λ f. Each (IsLater f) ys)
-      (λ f l. each_weaker (λ g. n ≤ g.row) (IsLater f) (λ g m. later_row f g (omega arith)) ys above) xs below
+    (λ f l. each_weaker (λ g. n ≤ g.row) (IsLater f) (λ g m. later_row f g (omega arith)) ys above) xs below
 
 -- ---- the row numbered 2^40
 
@@ -105,24 +105,24 @@ values_later : (store : SeenStore) (file row : ℕ) (fields : Fields) (places : 
 values_later store file row fields [] = tt
 values_later store file row fields (place ∷ places) =
     value_later file row place (field_value (format_at store place) store.missing (get_or fields place []))
-      (filter_map (λ p. result_err (value_at store p (record { file = file; row = row; fields = fields }))) places)
-      (values_later store file row fields places)
+    (filter_map (λ p. result_err (value_at store p (record { file = file; row = row; fields = fields }))) places)
+    (values_later store file row fields places)
 
 pub first_beyond : (store : SeenStore) (file row : ℕ) (fields : Fields) (records : List Fields) → leb (2 ^ 40) row ≡ true
     → first_reading_fault (flat_map (record_faults store) (numbered_records file row (fields ∷ records))) ≡ Some (rows_fault file row)
 first_beyond store file row fields records b =
     let r : DataRecord = record { file = file; row = row; fields = fields } in
     let others : List ReadingFault = fault_when (ltb (length store.names) (length fields)) TooManyFields file row
-        ++ filter_map (λ place. result_err (value_at store place r)) store.selected in
+    ++ filter_map (λ place. result_err (value_at store place r)) store.selected in
     let rest : List ReadingFault = flat_map (record_faults store) (numbered_records file (row + 1) records) in
     ap (λ w. first_reading_fault ((fault_when w TooManyRows file row ++ others) ++ rest)) b
     ∙ first_is (rows_fault file row) (others ++ rest)
-        (each_append (IsLater (rows_fault file row)) others rest
-          (each_append (IsLater (rows_fault file row)) (fault_when (ltb (length store.names) (length fields)) TooManyFields file row)
-            (filter_map (λ place. result_err (value_at store place r)) store.selected)
-            (width_later (ltb (length store.names) (length fields)) file row) (values_later store file row fields store.selected))
-          (each_weaker (λ g. row + 1 ≤ g.row) (IsLater (rows_fault file row)) (λ g m. later_row (rows_fault file row) g (omega arith)) rest
-            (faults_after store file (row + 1) records)))
+    (each_append (IsLater (rows_fault file row)) others rest
+    (each_append (IsLater (rows_fault file row)) (fault_when (ltb (length store.names) (length fields)) TooManyFields file row)
+    (filter_map (λ place. result_err (value_at store place r)) store.selected)
+    (width_later (ltb (length store.names) (length fields)) file row) (values_later store file row fields store.selected))
+    (each_weaker (λ g. row + 1 ≤ g.row) (IsLater (rows_fault file row)) (λ g m. later_row (rows_fault file row) g (omega arith)) rest
+    (faults_after store file (row + 1) records)))
 
 -- ---- a part of a block, and the block
 
@@ -138,9 +138,9 @@ first_of_part store part = first_of_columns store (part_records part) (first_wid
 part_first : (store : SeenStore) (part : Part) → first_reading_fault (flat_map (record_faults store) (part_records part)) ≡ first_of_part store part
 part_first store part =
     first_by_column store (part_records part)
-      (each_weaker (λ r. r.row < 2 ^ 40) (λ r. leb (2 ^ 40) r.row ≡ false) (λ r l. not_above r.row l) (part_records part)
-        (rows_below part.file part.first_row (2 ^ 40) (take part.rows part.block.now)
-          (subst (λ n. part.first_row + n ≤ 2 ^ 40) (sym (length-take-le part.rows part.block.now part.within)) part.numbered)))
+    (each_weaker (λ r. r.row < 2 ^ 40) (λ r. leb (2 ^ 40) r.row ≡ false) (λ r l. not_above r.row l) (part_records part)
+    (rows_below part.file part.first_row (2 ^ 40) (take part.rows part.block.now)
+    (subst (λ n. part.first_row + n ≤ 2 ^ 40) (sym (length-take-le part.rows part.block.now part.within)) part.numbered)))
 
 -- all of the block
 same_records : (part : Part) → part.rows ≡ length part.block.now → part_records part ≡ numbered_records part.file part.first_row part.block.now
@@ -152,7 +152,7 @@ pub answer_whole : (store : SeenStore) (part : Part) (result : Result (List (Lis
     → Answers (unless_fault (first_of_part store part) (variables_of store (part_records part))) result → Answers (block_table store (block_of part)) result
 answer_whole store part result e a =
     subst (λ rs. Answers (unless_fault (first_reading_fault (flat_map (record_faults store) rs)) (variables_of store rs)) result) (same_records part e)
-      (subst (λ f. Answers (unless_fault f (variables_of store (part_records part))) result) (sym (part_first store part)) a)
+    (subst (λ f. Answers (unless_fault f (variables_of store (part_records part))) result) (sym (part_first store part)) a)
 
 -- a part up to the row before 2^40
 block_first : (store : SeenStore) (part : Part) → part.rows < length part.block.now → part.first_row + part.rows ≡ 2 ^ 40
@@ -163,14 +163,14 @@ block_first store part l e =
     let fields : Fields = get_or part.block.now part.rows [] in
     let len : part.first_row + length taken ≡ 2 ^ 40 = ap (λ n. part.first_row + n) (length-take-le part.rows part.block.now part.within) ∙ e in
     ap (λ rs. first_reading_fault (flat_map (record_faults store) (numbered_records part.file part.first_row rs)))
-      (sym (take-append-drop part.rows part.block.now) ∙ ap (λ rs. taken ++ rs) (drop_more part.block.now part.rows [] l))
+    (sym (take-append-drop part.rows part.block.now) ∙ ap (λ rs. taken ++ rs) (drop_more part.block.now part.rows [] l))
     ∙ ap (λ rs. first_reading_fault (flat_map (record_faults store) rs)) (numbered_append part.file part.first_row taken (fields ∷ left))
     ∙ ap (λ n. first_reading_fault (flat_map (record_faults store) (part_records part ++ numbered_records part.file n (fields ∷ left)))) len
     ∙ ap first_reading_fault (flat_map-append (record_faults store) (part_records part) (numbered_records part.file (2 ^ 40) (fields ∷ left)))
     ∙ first_before (flat_map (record_faults store) (part_records part)) (flat_map (record_faults store) (numbered_records part.file (2 ^ 40) (fields ∷ left)))
-        (rows_apart (2 ^ 40) (flat_map (record_faults store) (part_records part)) (flat_map (record_faults store) (numbered_records part.file (2 ^ 40) (fields ∷ left)))
-          (faults_below store part.file part.first_row (2 ^ 40) taken (subst (λ n. n ≤ 2 ^ 40) (sym len) (omega arith)))
-          (faults_after store part.file (2 ^ 40) (fields ∷ left)))
+    (rows_apart (2 ^ 40) (flat_map (record_faults store) (part_records part)) (flat_map (record_faults store) (numbered_records part.file (2 ^ 40) (fields ∷ left)))
+    (faults_below store part.file part.first_row (2 ^ 40) taken (subst (λ n. n ≤ 2 ^ 40) (sym len) (omega arith)))
+    (faults_after store part.file (2 ^ 40) (fields ∷ left)))
     ∙ ap (λ f. option_or f (first_reading_fault (flat_map (record_faults store) (numbered_records part.file (2 ^ 40) (fields ∷ left))))) (part_first store part)
     ∙ ap (λ f. option_or (first_of_part store part) f) (first_beyond store part.file (2 ^ 40) fields left refl)
 
@@ -189,14 +189,14 @@ pub answer_limit : (store : SeenStore) (part : Part) (t : List (List ℕ × Seen
     → block_table store (block_of part) ≡ Err (rows_fault part.file (2 ^ 40))
 answer_limit store part t l e a =
     cut_ok (first_of_part store part) (first_block_fault store (block_of part)) (rows_fault part.file (2 ^ 40))
-      (variables_of store (part_records part)) (block_variables store (block_of part)) t (block_first store part l e) a
+    (variables_of store (part_records part)) (block_variables store (block_of part)) t (block_first store part l e) a
 
 pub answer_cut : (store : SeenStore) (part : Part) (fault : ReadingFault) → part.rows < length part.block.now → part.first_row + part.rows ≡ 2 ^ 40
     → Answers (unless_fault (first_of_part store part) (variables_of store (part_records part))) (Err (Reading fault))
     → block_table store (block_of part) ≡ Err fault
 answer_cut store part fault l e a =
     cut_err (first_of_part store part) (first_block_fault store (block_of part)) (rows_fault part.file (2 ^ 40)) fault
-      (variables_of store (part_records part)) (block_variables store (block_of part)) (block_first store part l e) a
+    (variables_of store (part_records part)) (block_variables store (block_of part)) (block_first store part l e) a
 
 -- the part that a block is read in
 pub record IsPart (block : List Fields) (file row : ℕ) (part : Part) : Type 0 where
@@ -227,12 +227,14 @@ whole_table store block file row part t p e a =
 is_cut : (block : List Fields) (file row : ℕ) (part : Part) → IsPart block file row part → part.rows ≢ length part.block.now
     → (part.rows < length part.block.now) × (part.first_row + part.rows ≡ 2 ^ 40)
 is_cut block file row part p other =
-    let same : length part.block.now ≡ length block = ap length p.block_is in
-    (cut_rows part.rows (length part.block.now) (length block) row p.rows_are same other p.last
-    , ap (λ n. n + part.rows) p.row_is ∙ cut_end part.rows (length part.block.now) (length block) row p.rows_are same other p.last)
+    let same : length part.block.now ≡ length block = ap length p.block_is in (
+      cut_rows part.rows (length part.block.now) (length block) row p.rows_are same other p.last,
+      ap (λ n. n + part.rows) p.row_is ∙ cut_end part.rows (length part.block.now) (length block) row p.rows_are same other p.last,
+    )
   where
     cut_rows : (rows n m row : ℕ) → rows ≡ min m (2 ^ 40 - row) → n ≡ m → rows ≢ n → row ≤ 2 ^ 40 → rows < n
     cut_rows rows n m row e s other l = omega arith
+
     cut_end : (rows n m row : ℕ) → rows ≡ min m (2 ^ 40 - row) → n ≡ m → rows ≢ n → row ≤ 2 ^ 40 → row + rows ≡ 2 ^ 40
     cut_end rows n m row e s other l = omega arith
 

@@ -1,22 +1,19 @@
 -- What an opening makes is a datastore.
-use Rattle.std.proofs.Common.{ℕ, zero, suc, ◌≡◌, ◌∙◌, ◌<◌, ◌≤◌, ◌+◌, ◌^◌, List, [], ◌∷◌, ◌++◌, Bool, true, false, Option, Some, None, Ok, Err, sym, ap, subst, refl, arith, length, get_or, map}
+use Rattle.std.proofs.Common.{ℕ, zero, suc, ◌≡◌, ◌∙◌, ◌<◌, ◌≤◌, ◌+◌, ◌^◌, List, [], ◌∷◌, ◌++◌, Bool, true, false, Option, Some, None, sym, ap, subst, refl, arith, length, get_or, map}
 use Rattle.std.specs.Prelude.{◌&&◌, ◌==◌, if◌then◌else◌}
 use Rattle.std.specs.Bool.{Decides}
-use Rattle.std.specs.List.{All, AllByRecursion, IsDistinct, range_with_len}
+use Rattle.std.specs.List.{AllByRecursion, IsDistinct, range_with_len}
 use Rattle.std.specs.Str.{bytes_eq}
 use Rattle.std.proofs.lemmas.Bool.{false≢true}
 use Rattle.std.proofs.lemmas.Bool.Decides.{Decides-eqb}
 use Rattle.std.proofs.lemmas.List.{length-append}
 use Rattle.std.proofs.lemmas.List.FromFn.{length-map-range_with_len, length-range_with_len}
-use Rattle.tall_cut.specs.declared.cutter.ReadSize.{ReadSize}
 use Rattle.tall_cut.specs.Rows.{Fields}
 use Rattle.tall_store.specs.declared.format.Format.{Format}
-use Rattle.tall_store.specs.Names.{distinct_name, field_name, header_names, names_from, numbered_name, variable_names}
-use Rattle.tall_store.specs.Options.{SeenOptions, are_distinct, is_absent_or, is_accepted, is_choice, is_delimiter, is_nonempty, is_size}
-use Rattle.tall_store.specs.Choices.{all_places, chosen_formats, chosen_places, detected, places_of}
-use Rattle.tall_store.specs.Opening.{opened_variables}
-use Rattle.tall_store.specs.Properties.{option_or_refuse}
-use Rattle.tall_store.specs.Stores.{IsStore, SeenStore, name_at}
+use Rattle.tall_store.specs.Names.{distinct_name, field_name, names_from, numbered_name, variable_names}
+use Rattle.tall_store.specs.Options.{SeenOptions, is_absent_or, is_accepted, is_choice, is_delimiter, is_nonempty, is_size}
+use Rattle.tall_store.specs.Choices.{all_places, chosen_formats, chosen_places, detected}
+use Rattle.tall_store.specs.Stores.{IsStore, SeenStore}
 use Rattle.tall_store.proofs.Selections.{all_of, both_true, selected_store}
 use Rattle.tall_store.proofs.HeaderNames.{no_names}
 
@@ -50,6 +47,7 @@ formats_length missing fields n (Some given) formats e = by_test (length given =
   where
     none_some : (x : List Format) → ◌≡◌ {A = Option (List Format)} (Some x) None → ⊥
     none_some x e = absurd cc
+
     by_test : (b : Bool) → Decides b (length given ≡ n) → ◌≡◌ {A = Option (List Format)} (Some formats) (if b then Some given else None) → length formats ≡ n
     by_test true d e = ap length (some_is formats given e) ∙ d.0 refl
     by_test false d e = absurd (none_some formats e)
@@ -65,6 +63,7 @@ in_order names (x ∷ xs) k e =
   where
     plus_none : (k : ℕ) → k ≡ k + 0
     plus_none k = omega arith
+
     plus_one : (k i : ℕ) → k + 1 + i ≡ k + suc i
     plus_one k i = omega arith
 
@@ -80,11 +79,16 @@ below k (suc n) m l = (omega arith, below (k + 1) n m (omega arith))
 
 whole_store : (store : SeenStore) → IsStore store → IsDistinct bytes_eq store.names → IsStore (record store { selected = all_places (length store.names) })
 whole_store store s d = record {
-    some_files = s.some_files; few_files = s.few_files; delimiter = s.delimiter; size = s.size; few_variables = s.few_variables; formats = s.formats;
-    places = all_of (λ place. place < length store.names) (all_places (length store.names)) (below 0 (length store.names) (length store.names) (omega arith));
-    few_selected = equal_le (length (all_places (length store.names))) (length store.names) (length-range_with_len 0 (length store.names));
-    distinct = subst (IsDistinct bytes_eq) (sym (all_names store.names)) d;
-  }
+  some_files = s.some_files;
+  few_files = s.few_files;
+  delimiter = s.delimiter;
+  size = s.size;
+  few_variables = s.few_variables;
+  formats = s.formats;
+  places = all_of (λ place. place < length store.names) (all_places (length store.names)) (below 0 (length store.names) (length store.names) (omega arith));
+  few_selected = equal_le (length (all_places (length store.names))) (length store.names) (length-range_with_len 0 (length store.names));
+  distinct = subst (IsDistinct bytes_eq) (sym (all_names store.names)) d;
+}
   where
     equal_le : (m n : ℕ) → m ≡ n → m ≤ n
     equal_le m n e = omega arith
@@ -112,16 +116,16 @@ some_files (file ∷ files) e = omega arith
 
 abbrev pub store_with : SeenOptions → Fields → List (List ℕ) → List Format → List ℕ → SeenStore
 store_with o first names formats selected = record {
-    files = o.files;
-    delimiter = o.delimiter;
-    size = o.size;
-    missing = o.missing;
-    header = o.header;
-    names = names;
-    formats = formats;
-    selected = selected;
-    first = first
-  }
+  files = o.files;
+  delimiter = o.delimiter;
+  size = o.size;
+  missing = o.missing;
+  header = o.header;
+  names = names;
+  formats = formats;
+  selected = selected;
+  first = first;
+}
 
 selection : (store : SeenStore) (o : Option (List (List ℕ))) (selected : List ℕ) → IsStore store → IsDistinct bytes_eq store.names → is_absent_or is_choice o ≡ true
     → Some selected ≡ chosen_places store.names o → IsStore (record store { selected = selected })
@@ -136,11 +140,17 @@ pub made_store : (o : SeenOptions) (first fields : Fields) (names : List (List �
 made_store o first fields names formats selected a few short d f p =
     let x : Accepted o = accepted o a in
     selection (store_with o first names formats []) o.selected selected
-      (record {
-        some_files = some_files o.files x.files; few_files = few; delimiter = x.delimiter; size = x.size; few_variables = short;
-        formats = formats_length o.missing fields (length names) o.formats formats f;
-        places = all_of (λ place. place < length names) [] tt; few_selected = omega arith; distinct = no_names;
-      }) d x.selected p
+    (record {
+      some_files = some_files o.files x.files;
+      few_files = few;
+      delimiter = x.delimiter;
+      size = x.size;
+      few_variables = short;
+      formats = formats_length o.missing fields (length names) o.formats formats f;
+      places = all_of (λ place. place < length names) [] tt;
+      few_selected = omega arith;
+      distinct = no_names;
+    }) d x.selected p
 
 pub files_named : (o : SeenOptions) → is_accepted o ≡ true → 0 < length o.files
 files_named o e = some_files o.files (accepted o e).files

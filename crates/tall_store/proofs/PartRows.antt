@@ -1,7 +1,6 @@
 -- The records of a part, one after the other.
-use Rattle.std.proofs.Common.{ℕ, ◌≡◌, ◌∙◌, ◌<◌, ◌≤◌, ◌+◌, List, [], ◌∷◌, ◌++◌, Bool, true, false, Option, Some, None, Ok, Err, Result, sym, ap, subst, refl, arith, length, get_or, take, drop, ltb}
-use Rattle.std.specs.Prelude.{if◌then◌else◌}
-use Rattle.std.specs.List.{filter_map, flat_map, cons_option}
+use Rattle.std.proofs.Common.{ℕ, ◌≡◌, ◌∙◌, ◌<◌, ◌≤◌, ◌+◌, List, [], ◌∷◌, ◌++◌, Bool, true, false, Some, Ok, Err, Result, sym, ap, subst, refl, arith, length, get_or, take, drop, ltb}
+use Rattle.std.specs.List.{flat_map, cons_option}
 use Rattle.std.specs.Result.{result_err, result_ok, result_map_both}
 use Rattle.std.proofs.lemmas.List.{append_assoc, append-nil, drop_more, get_or-take, length-take-le}
 use Rattle.std.proofs.Math.ListN.{drop_of_length-le}
@@ -41,13 +40,13 @@ taken_len part = length-take-le part.rows part.block.now part.within
 pub rest_end : (part : Part) → rest_of part part.rows ≡ []
 rest_end part =
     ap (λ xs. numbered_records part.file (part.first_row + part.rows) xs)
-      (drop_of_length-le (take part.rows part.block.now) (subst (λ n. n ≤ part.rows) (sym (taken_len part)) (omega arith)))
+    (drop_of_length-le (take part.rows part.block.now) (subst (λ n. n ≤ part.rows) (sym (taken_len part)) (omega arith)))
 
 pub rest_more : (part : Part) (i : ℕ) → i < part.rows → rest_of part i ≡ record_at part i ∷ rest_of part (i + 1)
 rest_more part i l =
     ap (λ xs. numbered_records part.file (part.first_row + i) xs)
-      (drop_more (take part.rows part.block.now) i [] (subst (λ n. i < n) (sym (taken_len part)) l)
-        ∙ ap (λ x. x ∷ drop (i + 1) (take part.rows part.block.now)) (get_or-take part.rows part.block.now i [] l))
+    (drop_more (take part.rows part.block.now) i [] (subst (λ n. i < n) (sym (taken_len part)) l)
+    ∙ ap (λ x. x ∷ drop (i + 1) (take part.rows part.block.now)) (get_or-take part.rows part.block.now i [] l))
     ∙ ap (λ row. record_at part i ∷ numbered_records part.file row (drop (i + 1) (take part.rows part.block.now))) (omega arith)
 
 -- ---- rows
@@ -63,8 +62,8 @@ pub faults_rows : (P : ℕ → Type 0) (h : DataRecord → List ReadingFault) �
 faults_rows P h e [] l = tt
 faults_rows P h e (r ∷ records) l =
     each_append (λ (f : ReadingFault). P f.row) (h r) (flat_map h records)
-      (each_weaker (λ (f : ReadingFault). f.row ≡ r.row) (λ f. P f.row) (λ f s. subst P (sym s) l.0) (h r) (e r))
-      (faults_rows P h e records l.1)
+    (each_weaker (λ (f : ReadingFault). f.row ≡ r.row) (λ f. P f.row) (λ f s. subst P (sym s) l.0) (h r) (e r))
+    (faults_rows P h e records l.1)
 
 pub when_row : (b : Bool) (kind : ReadingKind) (file row : ℕ) → Each (λ f. f.row ≡ row) (fault_when b kind file row)
 when_row true kind file row = (refl, tt)
@@ -88,9 +87,9 @@ pub width_found : (store : SeenStore) (part : Part) (i : ℕ) → i < part.rows 
 width_found store part i l b e =
     let f : ReadingFault = record { kind = TooManyFields; file = part.file; row = part.first_row + i; column = 0 } in
     sym (first_is f (width_rest store part (i + 1))
-      (each_weaker (λ g. part.first_row + (i + 1) ≤ g.row) (IsLater f) (λ g m. later_row f g (omega arith)) (width_rest store part (i + 1))
-        (faults_rows (λ n. part.first_row + (i + 1) ≤ n) (width_faults store) (λ r. when_row (ltb (length store.names) (length r.fields)) TooManyFields r.file r.row) (rest_of part (i + 1))
-          (rows_from part.file (part.first_row + (i + 1)) (drop (i + 1) (take part.rows part.block.now))))))
+    (each_weaker (λ g. part.first_row + (i + 1) ≤ g.row) (IsLater f) (λ g m. later_row f g (omega arith)) (width_rest store part (i + 1))
+    (faults_rows (λ n. part.first_row + (i + 1) ≤ n) (width_faults store) (λ r. when_row (ltb (length store.names) (length r.fields)) TooManyFields r.file r.row) (rest_of part (i + 1))
+    (rows_from part.file (part.first_row + (i + 1)) (drop (i + 1) (take part.rows part.block.now))))))
     ∙ ap (λ w. first_reading_fault (fault_when w TooManyFields part.file (part.first_row + i) ++ width_rest store part (i + 1))) (sym b)
     ∙ ap (first_width_fault store) (sym (rest_more part i l)) ∙ e
 
@@ -150,21 +149,22 @@ fault_first store part place i kind l e before =
     let rest : List ReadingFault = column_faults store (rest_of part (i + 1)) place in
     ap first_reading_fault (sym before ∙ faults_step store part place i (Err kind) l e)
     ∙ first_is f rest
-      (each_weaker (λ g. part.first_row + (i + 1) ≤ g.row) (IsLater f) (λ g m. later_row f g (omega arith)) rest
-        (subst (Each (λ g. part.first_row + (i + 1) ≤ g.row)) (sym (as_flat (λ r. result_err (value_at store place r)) (rest_of part (i + 1))))
-          (faults_rows (λ n. part.first_row + (i + 1) ≤ n) (λ r. cons_option (result_err (value_at store place r)) [])
-            (λ r. field_row store place r (field_value (format_at store place) store.missing (get_or r.fields place []))) (rest_of part (i + 1))
-            (rows_from part.file (part.first_row + (i + 1)) (drop (i + 1) (take part.rows part.block.now))))))
+    (each_weaker (λ g. part.first_row + (i + 1) ≤ g.row) (IsLater f) (λ g m. later_row f g (omega arith)) rest
+    (subst (Each (λ g. part.first_row + (i + 1) ≤ g.row)) (sym (as_flat (λ r. result_err (value_at store place r)) (rest_of part (i + 1))))
+    (faults_rows (λ n. part.first_row + (i + 1) ≤ n) (λ r. cons_option (result_err (value_at store place r)) [])
+    (λ r. field_row store place r (field_value (format_at store place) store.missing (get_or r.fields place []))) (rest_of part (i + 1))
+    (rows_from part.file (part.first_row + (i + 1)) (drop (i + 1) (take part.rows part.block.now))))))
 
 pub column_read : (store : SeenStore) (part : Part) (place : ℕ) (column : SeenColumn)
     → column.class ≡ class_of_format (format_at store place)
     → column_faults store (rest_of part part.rows) place ≡ column_faults store (part_records part) place
     → column.cells ++ cells_at store (rest_of part part.rows) place ≡ cells_at store (part_records part) place
     → ReadsColumn store (part_records part) place (Ok column)
-column_read store part place column class faults cells =
-    ( same_column column.class (class_of_format (format_at store place)) column.cells (cells_at store (part_records part) place) class
-        (sym (append-nil column.cells) ∙ ap (λ rs. column.cells ++ cells_at store rs place) (sym (rest_end part)) ∙ cells)
-    , sym faults ∙ ap (λ rs. column_faults store rs place) (rest_end part))
+column_read store part place column class faults cells = (
+  same_column column.class (class_of_format (format_at store place)) column.cells (cells_at store (part_records part) place) class
+      (sym (append-nil column.cells) ∙ ap (λ rs. column.cells ++ cells_at store rs place) (sym (rest_end part)) ∙ cells),
+  sym faults ∙ ap (λ rs. column_faults store rs place) (rest_end part),
+)
   where
     same_column : (c d : Class) (xs ys : List Seen) → c ≡ d → xs ≡ ys → ◌≡◌ {A = SeenColumn} (record { class = c; cells = xs }) (record { class = d; cells = ys })
     same_column c d xs ys p q = cc

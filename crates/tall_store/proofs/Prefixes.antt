@@ -1,14 +1,13 @@
 -- Where no later fault comes before an earlier one, the first of all is the first of the earlier ones, if there is one.
-use Rattle.std.proofs.Common.{ℕ, ◌≡◌, ◌∙◌, ◌<◌, ◌≤◌, ◌+◌, inl, inr, List, [], ◌∷◌, ◌++◌, Bool, true, false, Option, Some, None, sym, ap, refl, arith}
+use Rattle.std.proofs.Common.{ℕ, ◌≡◌, ◌∙◌, ◌<◌, inl, inr, List, [], ◌∷◌, ◌++◌, Bool, true, false, Option, Some, None, sym, ap, refl}
 use Rattle.std.specs.Prelude.{◌⊎◌, if◌then◌else◌, IfSome}
-use Rattle.std.specs.declared.cmp.Ordering.{Ordering}
-use Rattle.std.specs.declared.cmp.Ordering.TheVariants.{Less, Equal, Greater}
+use Rattle.std.specs.declared.cmp.Ordering.TheVariants.{Equal, Greater}
 use Rattle.std.specs.Ordering.{nat_cmp, is_lt, ordering_then}
 use Rattle.std.specs.Cmp.{nat_cmp_is}
 use Rattle.std.specs.Cmp.Lexicographic.{slice_cmp}
 use Rattle.std.specs.Option.{option_or}
 use Rattle.tall_store.specs.declared.faults.ReadingFault.{ReadingFault}
-use Rattle.tall_store.specs.ReadingOrder.{earlier_of, first_reading_fault, kind_rank, precedes, reading_place}
+use Rattle.tall_store.specs.ReadingOrder.{earlier_of, first_reading_fault, precedes, reading_place}
 use Rattle.tall_store.proofs.ReadingLaws.{first_append}
 
 -- ---- no earlier by its place
@@ -74,9 +73,9 @@ pub first_before : (xs ys : List ReadingFault) → Each (λ f. Each (IsLater f) 
 first_before xs ys l =
     first_append xs ys
     ∙ stays (first_reading_fault xs) (first_reading_fault ys)
-        (first_holds (λ f. IfSome (first_reading_fault ys) (λ g. precedes g f ≡ false)) xs
-          (each_weaker (λ f. Each (IsLater f) ys) (λ f. IfSome (first_reading_fault ys) (λ g. precedes g f ≡ false))
-            (λ f e. first_holds (λ g. precedes g f ≡ false) ys (each_weaker (IsLater f) (λ g. precedes g f ≡ false) (λ g i. later f g i) ys e)) xs l))
+    (first_holds (λ f. IfSome (first_reading_fault ys) (λ g. precedes g f ≡ false)) xs
+    (each_weaker (λ f. Each (IsLater f) ys) (λ f. IfSome (first_reading_fault ys) (λ g. precedes g f ≡ false))
+    (λ f e. first_holds (λ g. precedes g f ≡ false) ys (each_weaker (IsLater f) (λ g. precedes g f ≡ false) (λ g i. later f g i) ys e)) xs l))
 
 -- a fault that none of the others comes before
 pub first_is : (f : ReadingFault) (ys : List ReadingFault) → Each (IsLater f) ys → first_reading_fault (f ∷ ys) ≡ Some f

@@ -1,12 +1,11 @@
 -- The order of reading faults is total, and the first of several does not depend on their order.
-use Rattle.std.proofs.Common.{ℕ, ◌≡◌, ◌∙◌, List, [], ◌∷◌, ◌++◌, Bool, true, false, Option, Some, None, sym, ap, refl, subst, get_or}
+use Rattle.std.proofs.Common.{ℕ, ◌≡◌, ◌∙◌, List, [], ◌∷◌, ◌++◌, Bool, true, false, Option, Some, None, sym, ap, refl, get_or}
 use Rattle.std.specs.Prelude.{if◌then◌else◌}
 use Rattle.std.specs.declared.cmp.Ordering.{Ordering}
 use Rattle.std.specs.declared.cmp.Ordering.TheVariants.{Less, Equal, Greater}
-use Rattle.std.specs.Ordering.{nat_cmp, is_lt, is_eq, ordering_reverse, on}
+use Rattle.std.specs.Ordering.{nat_cmp, is_lt, is_eq, ordering_reverse}
 use Rattle.std.specs.Cmp.{IsTotalOrder}
 use Rattle.std.specs.Cmp.Lexicographic.{slice_cmp}
-use Rattle.std.specs.Str.{bytes_eq}
 use Rattle.std.proofs.lemmas.Cmp.{on_total, nat_list_cmp_total}
 use Rattle.std.proofs.lemmas.Map.Text.{is_eq-slice_cmp}
 use Rattle.std.proofs.lemmas.Slice.Eq.{bytes_eq-Decides}
@@ -80,8 +79,8 @@ is_tie f g Greater e p q = absurd (false≢true (sym q))
 pub tied : (f g : ReadingFault) → precedes f g ≡ false → precedes g f ≡ false → f ≡ g
 tied f g p q =
     one_fault f g ((bytes_eq-Decides (reading_place f) (reading_place g)).0
-      (sym (is_eq-slice_cmp (reading_place f) (reading_place g))
-        ∙ is_tie f g (compared f g) refl p (ap is_lt (sym (compared_total.antisymm g f)) ∙ q)))
+    (sym (is_eq-slice_cmp (reading_place f) (reading_place g))
+    ∙ is_tie f g (compared f g) refl p (ap is_lt (sym (compared_total.antisymm g f)) ∙ q)))
 
 one_way : (f g : ReadingFault) → precedes g f ≡ true → precedes f g ≡ false
 one_way f g p = ap is_lt (compared_total.antisymm f g ∙ ap ordering_reverse (is_less (compared g f) p))
@@ -104,7 +103,7 @@ spread_right f g h false = refl
 
 three_ways : (f g h : ReadingFault) (gf hg hf : Bool) → (hg ≡ true → gf ≡ true → hf ≡ true) → (gf ≡ false → hg ≡ false → hf ≡ false)
     → ◌≡◌ {A = Option ReadingFault} (if gf then (if hg then Some h else Some g) else (if hf then Some h else Some f))
-        (if hg then (if hf then Some h else Some f) else (if gf then Some g else Some f))
+    (if hg then (if hf then Some h else Some f) else (if gf then Some g else Some f))
 three_ways f g h true true true p q = refl
 three_ways f g h true true false p q = absurd (false≢true (p refl refl))
 three_ways f g h true false hf p q = refl

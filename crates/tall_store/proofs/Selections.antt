@@ -1,7 +1,7 @@
 -- What the options and the properties of a datastore have to do with what is true of every datastore.
-use Rattle.std.proofs.Common.{ℕ, zero, suc, ◌≡◌, ◌∙◌, ◌<◌, ◌≤◌, ◌+◌, ◌^◌, List, [], ◌∷◌, ◌++◌, Bool, true, false, Option, Some, None, sym, ap, subst, refl, arith, length, get_or, map}
-use Rattle.std.specs.Prelude.{◌-◌, ◌&&◌, ◌||◌, not, if◌then◌else◌}
-use Rattle.std.specs.List.{All, AllByRecursion, IsDistinct, list_any, position_from}
+use Rattle.std.proofs.Common.{ℕ, suc, ◌≡◌, ◌∙◌, ◌<◌, ◌≤◌, ◌+◌, List, [], ◌∷◌, Bool, true, false, Option, Some, None, sym, ap, subst, refl, arith, length, get_or, map}
+use Rattle.std.specs.Prelude.{◌&&◌, ◌||◌, not, if◌then◌else◌}
+use Rattle.std.specs.List.{All, AllByRecursion, IsDistinct, position_from}
 use Rattle.std.specs.Set.{is_member}
 use Rattle.std.specs.Str.{bytes_eq}
 use Rattle.std.specs.Cmp.{IsEquivalence}
@@ -18,7 +18,7 @@ use Rattle.tall_store.specs.declared.format.Format.{Format}
 use Rattle.tall_store.specs.Names.{has_name}
 use Rattle.tall_store.specs.Options.{are_distinct, is_choice, is_nonempty, is_size}
 use Rattle.tall_store.specs.Choices.{cons_option, place_of, places_of}
-use Rattle.tall_store.specs.Stores.{IsStore, SeenStore, name_at, selected_names}
+use Rattle.tall_store.specs.Stores.{IsStore, SeenStore}
 
 pub bytes_laws : IsEquivalence bytes_eq
 bytes_laws = lists_equiv nat_eq_equiv
@@ -90,10 +90,10 @@ are_places names (name ∷ wanted) places e =
     let first : IsPlace names name pair.0 = place_is names name pair.0 pair.1.1.0 in
     let rest : ArePlaces names wanted pair.1.0 = are_places names wanted pair.1.0 pair.1.1.1.0 in
     subst (ArePlaces names (name ∷ wanted)) (sym pair.1.1.1.1)
-      (record {
-        within = (first.within, rest.within);
-        named = ap (λ n. n ∷ map (λ place. get_or names place []) pair.1.0) first.named ∙ ap (λ ns. name ∷ ns) rest.named;
-      })
+    (record {
+      within = (first.within, rest.within);
+      named = ap (λ n. n ∷ map (λ place. get_or names place []) pair.1.0) first.named ∙ ap (λ ns. name ∷ ns) rest.named;
+    })
 
 -- ---- distinct names
 
@@ -140,7 +140,7 @@ pub few_places : (names : List (List ℕ)) (places : List ℕ) → AllByRecursio
     → IsDistinct bytes_eq (map (λ place. get_or names place []) places) → length places ≤ length names
 few_places names places a d =
     subst (λ n. n ≤ length names) (length-map places (λ place. get_or names place []))
-      (length-le_from_is_member bytes_laws (map (λ place. get_or names place []) places) names d (λ q e. among names places q a e))
+    (length-le_from_is_member bytes_laws (map (λ place. get_or names place []) places) names d (λ q e. among names places q a e))
 
 -- ---- changes
 
@@ -151,7 +151,12 @@ selected_store store wanted places s c e =
     let a : ArePlaces store.names wanted places = are_places store.names wanted places e in
     let d : IsDistinct bytes_eq (map (λ place. get_or store.names place []) places) = subst (IsDistinct bytes_eq) (sym a.named) (distinct_names wanted p.1) in
     record {
-      some_files = s.some_files; few_files = s.few_files; delimiter = s.delimiter; size = s.size; few_variables = s.few_variables; formats = s.formats;
+      some_files = s.some_files;
+      few_files = s.few_files;
+      delimiter = s.delimiter;
+      size = s.size;
+      few_variables = s.few_variables;
+      formats = s.formats;
       places = all_of (λ place. place < length store.names) places a.within;
       few_selected = few_places store.names places a.within d;
       distinct = d;
@@ -159,19 +164,33 @@ selected_store store wanted places s c e =
 
 pub sized_store : (store : SeenStore) (size : ReadSize) → IsStore store → is_size size ≡ true → IsStore (record store { size = size })
 sized_store store size s e = record {
-    some_files = s.some_files; few_files = s.few_files; delimiter = s.delimiter; size = e; few_variables = s.few_variables; formats = s.formats;
-    places = s.places; few_selected = s.few_selected; distinct = s.distinct;
-  }
+  some_files = s.some_files;
+  few_files = s.few_files;
+  delimiter = s.delimiter;
+  size = e;
+  few_variables = s.few_variables;
+  formats = s.formats;
+  places = s.places;
+  few_selected = s.few_selected;
+  distinct = s.distinct;
+}
 
 pub formatted_store : (store : SeenStore) (formats : List Format) → IsStore store → length formats ≡ length store.names → IsStore (record store { formats = formats })
 formatted_store store formats s e = record {
-    some_files = s.some_files; few_files = s.few_files; delimiter = s.delimiter; size = s.size; few_variables = s.few_variables; formats = e;
-    places = s.places; few_selected = s.few_selected; distinct = s.distinct;
-  }
+  some_files = s.some_files;
+  few_files = s.few_files;
+  delimiter = s.delimiter;
+  size = s.size;
+  few_variables = s.few_variables;
+  formats = e;
+  places = s.places;
+  few_selected = s.few_selected;
+  distinct = s.distinct;
+}
 
 pub selecting_store : (store : SeenStore) (wanted : List (List ℕ)) (size : ReadSize) (formats : List Format) (places : List ℕ)
     → size ≡ store.size → formats ≡ store.formats → IsStore store → is_choice wanted ≡ true → Some places ≡ places_of store.names wanted
     → IsStore (record store { size = size; formats = formats; selected = places })
 selecting_store store wanted size formats places p q s c e =
     subst (λ z. IsStore (record store { size = z; formats = formats; selected = places })) (sym p)
-      (subst (λ fs. IsStore (record store { formats = fs; selected = places })) (sym q) (selected_store store wanted places s c (sym e)))
+    (subst (λ fs. IsStore (record store { formats = fs; selected = places })) (sym q) (selected_store store wanted places s c (sym e)))

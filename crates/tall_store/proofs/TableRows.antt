@@ -1,7 +1,7 @@
 -- The variables of some records, column by column.
-use Rattle.std.proofs.Common.{ℕ, zero, suc, ◌≡◌, ◌∙◌, ◌<◌, ◌≤◌, ◌+◌, List, [], ◌∷◌, ◌++◌, Bool, true, false, Option, Some, None, Ok, Err, Result, sym, ap, subst, refl, arith, length, get_or, map, take, drop}
-use Rattle.std.specs.Prelude.{if◌then◌else◌, IfSome}
-use Rattle.std.specs.List.{AllByRecursion, IsDistinct, filter_map, cons_option}
+use Rattle.std.proofs.Common.{ℕ, zero, suc, ◌≡◌, ◌∙◌, ◌<◌, ◌+◌, List, [], ◌∷◌, ◌++◌, false, Option, Some, None, Ok, Err, Result, sym, ap, refl, arith, length, get_or, map, take, drop}
+use Rattle.std.specs.Prelude.{if◌then◌else◌}
+use Rattle.std.specs.List.{AllByRecursion, IsDistinct, cons_option}
 use Rattle.std.specs.Result.{result_err, result_ok}
 use Rattle.std.specs.Str.{bytes_eq}
 use Rattle.std.proofs.lemmas.List.{drop_more, take_more}
@@ -31,7 +31,7 @@ none_before store records [] i l d = absurd (omega arith)
 none_before store records (place ∷ places) zero l d = refl
 none_before store records (place ∷ places) (suc i) l d =
     ap (λ b. if b then Some (column_at store records place) else column_named (name_at store (get_or places i 0)) (map (variable_of store records) (take i places)))
-      (at_place (λ y. bytes_eq (name_at store place) y ≡ false) (name_at store) places i 0 (omega arith) (IsDistinct-head bytes_eq (name_at store place) (map (name_at store) places) d))
+    (at_place (λ y. bytes_eq (name_at store place) y ≡ false) (name_at store) places i 0 (omega arith) (IsDistinct-head bytes_eq (name_at store place) (map (name_at store) places) d))
     ∙ none_before store records places i (omega arith) (IsDistinct-tail bytes_eq (name_at store place) (map (name_at store) places) d)
 
 -- ---- heights

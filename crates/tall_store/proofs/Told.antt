@@ -1,11 +1,8 @@
 -- From the records that are left of a file to what an opening of it is.
-use Rattle.std.proofs.Common.{ℕ, zero, suc, ◌≡◌, ◌∙◌, ◌<◌, ◌≤◌, ◌^◌, List, [], ◌∷◌, ◌++◌, Bool, true, false, sym, ap, subst, refl, arith, length, get_or, inl, inr}
-use Rattle.std.specs.Prelude.{◌⊎◌, Option, None, Some, Result, Ok, Err, IfSome, IsSomeAnd, if◌then◌else◌, option_map}
-use Rattle.tall_outside.specs.Shelf.{Files, Logs, file_in}
-use Rattle.tall_outside.specs.declared.shelf.Opening.{Opening}
-use Rattle.tall_outside.specs.declared.shelf.Opening.TheVariants as o
-use Rattle.tall_cut.specs.Rows.{Fields, TakesMany, file_records}
-use Rattle.tall_cut.specs.Feed.{within_limit}
+use Rattle.std.proofs.Common.{◌≡◌, ◌∙◌, ◌<◌, ◌≤◌, List, [], ◌∷◌, ◌++◌, true, false, sym, ap, subst, arith, length, get_or}
+use Rattle.std.specs.Prelude.{Option, None, Some, Result, Ok, Err, IfSome, if◌then◌else◌}
+use Rattle.tall_outside.specs.Shelf.{Files, file_in}
+use Rattle.tall_cut.specs.Rows.{Fields, TakesMany}
 use Rattle.tall_store.specs.declared.faults.StoreFault.{StoreFault}
 use Rattle.tall_store.specs.declared.faults.StoreFault.TheVariants.{BadArgument, NoHeader}
 use Rattle.tall_store.specs.Stores.{SeenStore}
@@ -63,7 +60,6 @@ told_one None mid rest o first fields result t u h f due = tt
 told_one (Some records) None rest o first fields result t u h f due = absurd t
 told_one (Some records) (Some more) rest o first fields result t u h f due =
     due_of o records more first fields result t (ap (λ b. if b then first_fields more else first) h ∙ ap first_fields u ∙ sym f) due
-
 
 -- ---- the options
 

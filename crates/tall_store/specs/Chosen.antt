@@ -5,11 +5,11 @@ use Rattle.tall_store.specs.Options.{SeenOptions}
 
 abbrev pub chosen_seen : Chosen → SeenOptions
 chosen_seen c = record {
-    files = c.files.items;
-    delimiter = c.delimiter;
-    size = c.size;
-    missing = c.missing.items;
-    selected = option_map (λ names. names.items) c.selected;
-    formats = option_map (λ formats. formats.items) c.formats;
-    header = c.header
-  }
+  files = c.files.items;
+  delimiter = c.delimiter;
+  size = c.size;
+  missing = c.missing.items;
+  selected = option_map (λ names. names.items) c.selected;
+  formats = option_map (λ formats. formats.items) c.formats;
+  header = c.header;
+}

@@ -1,5 +1,5 @@
 -- The faults of some records, first those of the records and then variable by variable.
-use Rattle.std.specs.Prelude.{◌≡◌, ℕ, nat_lt, List, [], ◌∷◌, length, Option, None, Some, Result, Ok, Err}
+use Rattle.std.specs.Prelude.{◌≡◌, ℕ, nat_lt, List, [], ◌∷◌, length, Option, Some, Result, Ok, Err}
 use Rattle.std.specs.List.{filter_map, flat_map}
 use Rattle.std.specs.Result.{result_err}
 use Rattle.tall_column.specs.Columns.{SeenColumn}

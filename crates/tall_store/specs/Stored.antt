@@ -41,7 +41,7 @@ abbrev pub record_faults : SeenStore → DataRecord → List ReadingFault
 record_faults store r =
     fault_when (nat_le (2 ^ 40) r.row) TooManyRows r.file r.row
     ++ (fault_when (nat_lt (length store.names) (length r.fields)) TooManyFields r.file r.row
-      ++ filter_map (λ place. result_err (value_at store place r)) store.selected)
+    ++ filter_map (λ place. result_err (value_at store place r)) store.selected)
 
 -- of a file itself, at the row that would come next: it is there, and its header is that of the first file
 abbrev pub file_faults : SeenStore → Option (List ℕ) → ℕ → ℕ → List ReadingFault

@@ -31,11 +31,7 @@ fn first_wide(store: &Datastore, part: &Part<'_>) -> Option<ReadingFault>
 
 #[tactic(auto, using(crate::proofs::PartRows::rest_start, crate::proofs::PartRows::column_read))]
 // The column of the variable at a place among all, or the first fault of its fields.
-fn read_column(
-    store: &Datastore,
-    part: &Part<'_>,
-    place: usize,
-) -> Result<Column, ColumnsFault>
+fn read_column(store: &Datastore, part: &Part<'_>, place: usize) -> Result<Column, ColumnsFault>
     requires few { length store.now.names < 2 ^ 20 }
     requires place { place < length store.now.names }
     ensures { ReadsColumn store.now (part_records part.now) place result }

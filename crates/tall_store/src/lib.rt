@@ -15,6 +15,8 @@ mod part;
 mod properties;
 mod record;
 mod store;
+#[cfg(test)]
+mod tests;
 mod texts;
 mod values;
 

@@ -38,10 +38,7 @@ pub(crate) struct Chosen {
 }
 
 // The texts of a list, if there is one.
-fn some_texts(
-    alloc: Global,
-    strings: &Option<Vec<String>>,
-) -> Result<Option<Vec<Text>>, AllocError>
+fn some_texts(alloc: Global, strings: &Option<Vec<String>>) -> Result<Option<Vec<Text>>, AllocError>
     ensures { IfOk result (λ texts. option_map (λ t. t.items) texts ≡ option_map (λ names. map (λ s. string_bytes s) names.items) strings.now) }
 {
     match strings {

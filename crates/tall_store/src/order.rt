@@ -49,12 +49,6 @@ pub(crate) fn earlier(fault: Option<ReadingFault>, found: ReadingFault) -> Readi
 {
     match fault {
         None => found,
-        Some(fault) => {
-            if found.precedes(fault) {
-                found
-            } else {
-                fault
-            }
-        }
+        Some(fault) => { if found.precedes(fault) { found } else { fault } }
     }
 }

@@ -36,7 +36,11 @@ pub(crate) fn is_same(fields: &ByteRecord, records: &Records) -> bool
 }
 
 // A record of a block, to keep.
-pub(crate) fn keep_record(alloc: Global, records: &Records, i: usize) -> Result<ByteRecord, AllocError>
+pub(crate) fn keep_record(
+    alloc: Global,
+    records: &Records,
+    i: usize,
+) -> Result<ByteRecord, AllocError>
     requires { i < length records.now }
     ensures { IfOk result (λ kept. fields_of kept ≡ get_or records.now i []) }
 {

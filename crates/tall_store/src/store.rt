@@ -1,5 +1,6 @@
 //! Datastores.
 ghost use Rattle.std.specs.Prelude.{◌≡◌, ◌<◌, ◌≤◌, ◌^◌, ◌+◌, ◌-◌, length, get_or, []};
+ghost use Rattle.tall_cut.specs.Cuts.{rows_of};
 ghost use Rattle.tall_store.specs.Formats.{class_of_format};
 ghost use Rattle.tall_store.specs.Stores.{IsStore, format_at, name_at, selected_names};
 ghost use Rattle.tall_store.specs.Choices.{place_of};
@@ -45,7 +46,8 @@ impl Model for Datastore {
 impl Datastore {
     /// How many files there are.
     pub fn file_count(&self) -> u32
-        ensures { result ≡ length self.now.files }
+        ensures count { result ≡ length self.now.files }
+        ensures store { IsStore self.now }
     {
         self.files.len() as u32
     }
@@ -59,7 +61,8 @@ impl Datastore {
 
     /// How many records a block has.
     pub fn size(&self) -> ReadSize
-        ensures { result ≡ self.now.size }
+        ensures size { result ≡ self.now.size }
+        ensures some { 0 < rows_of result }
     {
         self.size
     }
@@ -90,8 +93,7 @@ impl Datastore {
 
     /// How many variables are selected.
     pub fn selected_count(&self) -> u32
-        ensures count { result ≡ length self.now.selected }
-        ensures store { IsStore self.now }
+        ensures { result ≡ length self.now.selected }
     {
         self.selected.len() as u32
     }
@@ -99,7 +101,8 @@ impl Datastore {
     /// The class of the selected variable at a place of the selection, from 0.
     pub fn class_at(&self, k: u32) -> Class
         requires { k < length self.now.selected }
-        ensures { result ≡ class_of_format (format_at self.now (get_or self.now.selected k 0)) }
+        ensures class { result ≡ class_of_format (format_at self.now (get_or self.now.selected k 0)) }
+        ensures store { IsStore self.now }
     {
         self.formats[self.selected[k as usize]].class()
     }
@@ -131,8 +134,8 @@ impl Datastore {
         self.missing.as_slice()
     }
 
-    // How many variables the file has.
-    pub(crate) fn variable_count(&self) -> usize
+    /// How many variables a file has, selected or not.
+    pub fn variable_count(&self) -> usize
         ensures { result ≡ length self.now.names }
     {
         self.names.len()

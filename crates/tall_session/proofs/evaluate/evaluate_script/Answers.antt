@@ -1,8 +1,8 @@
 use Rattle.std.proofs.Common.{rules, arith, ◌≡◌, length, take, length-take-le, true, subst, ◌∙◌}
 use Rattle.std.specs.Prelude.{IfSome}
-use Rattle.tall_outside.specs.Shelf.{file_in}
-use Rattle.tall_session.specs.FirstScript.{data_name, is_first_script}
-use Rattle.tall_session.specs.Evaluation.{Agrees, Prints, WithinLimit, data_outcome}
+use Rattle.tall_session.specs.FirstScript.{first_lines, is_first_script}
+use Rattle.tall_session.specs.Data.{data_outcome}
+use Rattle.tall_session.specs.Evaluation.{Agrees, Prints, WithinLimit}
 use Rattle.tall_session.proofs.FirstScripts.{script_told}
 use Rattle.tall_session.proofs.evaluate.evaluate_script.Goals as goal
 
@@ -16,7 +16,7 @@ returns-clause-told g c =
     script_told (λ files due. WithinLimit files → Agrees c.evaluate_data.result due) _ _ _ _ _ c.in-Opened.ensures.answer c.in-Ok.ensures.bytes
     (λ short. c.in-Ok.ensures.end (omega arith))
     first
-    (subst (λ held. IfSome held (λ files. WithinLimit files → Agrees c.evaluate_data.result (data_outcome (file_in files data_name)))) same c.evaluate_data.ensures.told)
+    (subst (λ held. IfSome held (λ files. WithinLimit files → Agrees c.evaluate_data.result (data_outcome files first_lines))) same c.evaluate_data.ensures.told)
 
 pub returns-clause-printed : goal.returns-clause-printed
 returns-clause-printed g c =
@@ -28,4 +28,4 @@ returns-clause-printed g c =
     script_told (λ files due. Prints c.evaluate_data.result due) _ _ _ _ _ c.in-Opened.ensures.answer c.in-Ok.ensures.bytes
     (λ short. c.in-Ok.ensures.end (omega arith))
     first
-    (subst (λ held. IfSome held (λ files. Prints c.evaluate_data.result (data_outcome (file_in files data_name)))) same c.evaluate_data.ensures.printed)
+    (subst (λ held. IfSome held (λ files. Prints c.evaluate_data.result (data_outcome files first_lines))) same c.evaluate_data.ensures.printed)

@@ -14,4 +14,4 @@ loop-place-preserved c =
     let is : c.detected.result ≡ f c.loop-place.place = c.detected.ensures ∙ ap (detected c.args.missing.now) c.field_or_empty.ensures in
     ap (λ formats. formats ++ map f (range_with_len (c.loop-place.place + 1) (c.args.n - (c.loop-place.place + 1)))) pushed
     ∙ range_more f c.loop-place.formats.items (c.args.n - c.loop-place.place) (c.args.n - (c.loop-place.place + 1)) c.loop-place.place c.detected.result
-        (detected_formats c.args.missing.now (fields_of c.args.fields.now) c.args.n) (search rules) is c.loop-place.invariant
+    (detected_formats c.args.missing.now (fields_of c.args.fields.now) c.args.n) (search rules) is c.loop-place.invariant

@@ -8,7 +8,7 @@ use Rattle.tall_store.proofs.columns.read_columns.Given as goal
 abbrev pub invariant-loop-place : goal.invariant-loop-place
 invariant-loop-place l = record {
   faults : first_of_columns l.store (part_records l.part) l.fault (drop l.place-index l.store.selected)
-    ≡ first_of_columns l.store (part_records l.part) (first_width_fault l.store (part_records l.part)) l.store.selected;
+      ≡ first_of_columns l.store (part_records l.part) (first_width_fault l.store (part_records l.part)) l.store.selected;
   table : l.fault ≡ None → l.table ≡ map (variable_of l.store (part_records l.part)) (take l.place-index l.store.selected);
   height : HasHeight (length (part_records l.part)) l.table;
 }

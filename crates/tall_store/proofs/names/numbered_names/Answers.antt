@@ -10,4 +10,4 @@ loop-k-preserved c =
     let pushed : c.push.new.self.items ≡ c.loop-k.names.items ++ c.in_ok-numbered_name.field-0 ∷ [] = search rules in
     ap (λ names. names ++ map numbered_name (range_with_len (c.loop-k.k + 1 + 1) (c.args.n - (c.loop-k.k + 1)))) pushed
     ∙ range_more numbered_name c.loop-k.names.items (c.args.n - c.loop-k.k) (c.args.n - (c.loop-k.k + 1)) (c.loop-k.k + 1) c.in_ok-numbered_name.field-0
-        (numbered_names c.args.n) (search rules) c.in_ok-numbered_name.ensures c.loop-k.invariant
+    (numbered_names c.args.n) (search rules) c.in_ok-numbered_name.ensures c.loop-k.invariant

@@ -1,4 +1,4 @@
-use Rattle.std.proofs.Common.{rules, ◌≡◌, ◌∙◌, Some, true}
+use Rattle.std.proofs.Common.{rules, ◌≡◌, Some, true}
 use Rattle.tall_store.specs.Options.{is_choice}
 use Rattle.tall_store.specs.Choices.{places_of}
 use Rattle.tall_store.proofs.Selections.{selecting_store}
@@ -10,4 +10,4 @@ copy_with-requires c =
     let found : Some c.in-Some.places.items ≡ places_of c.names.result.now c.as_slice-2.result.now = search rules in
     let placed : Some c.in-Some.places.items ≡ places_of c.args.self.now.names c.as_slice.result.now = search rules in
     selecting_store c.args.self.now c.as_slice.result.now c.size.result c.in_ok-formats-in-Some.formats.items c.in-Some.places.items
-      c.size.ensures (search rules) c.formats.ensures.store choice placed
+    c.size.ensures.size (search rules) c.formats.ensures.store choice placed

@@ -1,7 +1,7 @@
 use Rattle.std.specs.Prelude.{Some, ◌^◌}
 use Rattle.tall_cut.specs.Asked.{and_name, size_in}
 use Rattle.tall_session.specs.FirstScript.{data_name}
-use Rattle.tall_session.proofs.evaluate.evaluate_data.Given as goal
+use Rattle.tall_session.proofs.evaluate.sum_data.Given as goal
 
 -- the opening of the data file, as the shelf and the call tell it
 abbrev pub ghosts-sum_file : goal.ghosts-sum_file

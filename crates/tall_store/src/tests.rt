@@ -1,0 +1,737 @@
+//! What datastores give of small files, against values that were written by hand.
+
+ghost use Rattle.std.specs.Prelude.{◌<◌, ◌^◌, [], get_or, length};
+ghost use Rattle.tall_cut.specs.Asked.{Asks};
+
+use crate::{ColumnsFault, Datastore, Format, Options, ReadingFault, StoreFault};
+use std::alloc::{AllocError, Global};
+use std::fmt::Write;
+use std::marker::Brand;
+use std::process::Abort;
+use std::test::Fail;
+use tall_column::Table;
+use tall_cut::{Cause, Cutter, FeedFault, Lent, Next, OpenedFile, ReadSize, Records, open_feed};
+use tall_outside::{MemShelf, Shelf, has_distinct_names};
+use tall_value::{Cell, Class, Content};
+
+/// The texts of a list that commas part; none of an empty text.
+fn strings(alloc: Global, list: &str) -> Result<Vec<String>, AllocError> {
+    let mut strings = Vec::new(alloc);
+    if !list.is_empty() {
+        for text in list.split(',') {
+            strings.push(String::from_str(alloc, text)?)?;
+        }
+    }
+    Ok(strings)
+}
+
+/// The format of a conversion without its `%`.
+fn format_of(text: &str) -> Format {
+    if text == "d8" {
+        Format::Int8
+    } else if text == "d16" {
+        Format::Int16
+    } else if text == "d32" {
+        Format::Int32
+    } else if text == "d64" {
+        Format::Int64
+    } else if text == "u8" {
+        Format::Uint8
+    } else if text == "u16" {
+        Format::Uint16
+    } else if text == "u32" {
+        Format::Uint32
+    } else if text == "u64" {
+        Format::Uint64
+    } else if text == "f" {
+        Format::Double
+    } else {
+        Format::Text
+    }
+}
+
+/// The formats of a list that commas part; none of an empty text.
+fn formats_of(alloc: Global, list: &str) -> Result<Vec<Format>, AllocError> {
+    let mut formats = Vec::new(alloc);
+    if !list.is_empty() {
+        for text in list.split(',') {
+            formats.push(format_of(text))?;
+        }
+    }
+    Ok(formats)
+}
+
+/// Sets an option.
+fn set(alloc: Global, options: &mut Options, name: &str, value: &str) -> Result<(), AllocError> {
+    if name == "files" {
+        options.files = strings(alloc, value)?;
+    } else if name == "delimiter" {
+        options.delimiter = value.parse::<u8>().unwrap_or(0);
+    } else if name == "size" {
+        options.size = match value.parse::<u32>() {
+            Ok(rows) => ReadSize::Rows(rows),
+            Err(_) => ReadSize::File,
+        };
+    } else if name == "missing" {
+        options.missing = strings(alloc, value)?;
+    } else if name == "select" {
+        options.selected = Some(strings(alloc, value)?);
+    } else if name == "formats" {
+        options.formats = Some(formats_of(alloc, value)?);
+    } else {
+        options.header = false;
+    }
+    Ok(())
+}
+
+/// The options of a plan: the file a.csv with all defaults, but for `NAME VALUE|NAME VALUE`.
+fn options_of(alloc: Global, plan: &str) -> Result<Options, AllocError> {
+    let mut options = Options {
+        files: strings(alloc, "a.csv")?,
+        delimiter: b',',
+        size: ReadSize::Rows(20000),
+        missing: Vec::new(alloc),
+        selected: None,
+        formats: None,
+        header: true,
+    };
+    for part in plan.split('|') {
+        if let Some((name, value)) = part.split_once(' ') {
+            set(alloc, &mut options, name, value)?;
+        }
+    }
+    Ok(options)
+}
+
+/// Writes a cell.
+fn write_cell(text: &mut String, cell: &Cell<'_>) -> Result<(), AllocError> {
+    match cell.content() {
+        Content::Whole(_, n) => write!(text, " {n}")?,
+        Content::Logical(_) => write!(text, " ?")?,
+        Content::Double(d) => match d.get() {
+            Some(n) => write!(text, " {n}")?,
+            None => write!(text, " NaN")?,
+        },
+        Content::Text(t) => write!(text, " {t:?}")?,
+    }
+    Ok(())
+}
+
+/// Writes each row of a table as a line.
+fn write_rows(text: &mut String, table: &Table) -> Result<(), AllocError> {
+    for row in 0..table.height() {
+        for k in 0..table.width() {
+            let column = table.at(k);
+            if row < column.len() {
+                write_cell(text, &column.get(row))?;
+            }
+        }
+        writeln!(text)?;
+    }
+    Ok(())
+}
+
+/// Writes a fault as a line.
+fn write_fault(text: &mut String, fault: ReadingFault) -> Result<(), AllocError> {
+    let ReadingFault {
+        kind,
+        file,
+        row,
+        column,
+    } = fault;
+    writeln!(text, "{kind:?} at file {file} row {row} column {column}")?;
+    Ok(())
+}
+
+/// Writes a block; whether it has no fault.
+fn write_block(
+    text: &mut String,
+    store: &Datastore,
+    block: &Records,
+    file: u32,
+    row: u64,
+) -> Result<bool, AllocError> {
+    if file >= store.file_count() || row < 1 || row > 1 << 40 {
+        return Ok(false);
+    }
+    match store.to_columns(block, file, row) {
+        Ok(table) => write_rows(text, &table)?,
+        Err(ColumnsFault::Reading(fault)) => {
+            write_fault(text, fault)?;
+            return Ok(false);
+        }
+        Err(ColumnsFault::Memory) => return Err(AllocError),
+    }
+    Ok(true)
+}
+
+/// Writes the blocks of a file and moves the row past them.
+fn write_blocks<'s, S: Shelf, K: OpenedFile>(
+    text: &mut String,
+    store: &Datastore,
+    cutter: &mut Cutter<'s, S, K>,
+    file: u32,
+    row: &mut u64,
+) -> Result<bool, AllocError> {
+    if store.has_header() {
+        match cutter.first_record() {
+            Next::Block(first) => {
+                if !store.same_header(&first) {
+                    writeln!(text, "HeaderDiffers at file {file} row {row}")?;
+                    return Ok(false);
+                }
+            }
+            _ => {
+                writeln!(text, "HeaderDiffers at file {file} row {row}")?;
+                return Ok(false);
+            }
+        }
+    }
+    for _turn in 0..100u32 {
+        match cutter.next_block() {
+            Next::Block(block) => {
+                if !write_block(text, store, &block, file, *row)? {
+                    return Ok(false);
+                }
+                *row = row.saturating_add(block.len() as u64);
+            }
+            _ => return Ok(true),
+        }
+    }
+    Ok(false)
+}
+
+/// Writes the rows of a file of a lent shelf; the shelf comes back.
+fn write_file<'s, S: Shelf, K: OpenedFile>(
+    alloc: Global,
+    lent: Lent<'s, S>,
+    store: &Datastore,
+    file: u32,
+    row: &mut u64,
+    text: &mut String,
+) -> Lent<'s, S>
+    requires file { file < length store.now.files }
+    requires asks { Asks S.Shelf K.OpenedFile lent.shelf.ghost_name lent.shelf.now (get_or store.now.files file []) (2 ^ 50) }
+{
+    match open_feed::<S, K>(lent, store.file_name(file), 1 << 50) {
+        Ok(feed) => {
+            let mut cutter: Cutter<'s, S, K> = Cutter::new(
+                alloc,
+                feed,
+                store.delimiter(),
+                store.size(),
+            );
+            let _ = write_blocks(text, store, &mut cutter, file, row);
+            cutter.into_lent()
+        }
+        Err(refused) => {
+            let _ = writeln!(text, "NoFile at file {file} row {row}");
+            refused.lent
+        }
+    }
+}
+
+/// Writes the rows of a file of a shelf.
+fn write_rows_of<S: Shelf>(
+    alloc: Global,
+    shelf: &mut S,
+    store: &Datastore,
+    file: u32,
+    row: &mut u64,
+    text: &mut String,
+)
+    requires { file < length store.now.files }
+{
+    let _lent = write_file::<S, Brand>(alloc, Lent { shelf }, store, file, row, text);
+}
+
+/// Writes the variables and all rows of a datastore, or why there is none.
+fn write_store(
+    alloc: Global,
+    shelf: &mut MemShelf,
+    opened: Result<Datastore, StoreFault>,
+    first_row: u64,
+    text: &mut String,
+) -> Result<(), AllocError> {
+    let store = match opened {
+        Ok(store) => store,
+        Err(fault) => {
+            write!(text, "{fault:?}")?;
+            return Ok(());
+        }
+    };
+    for column in 1..store.variable_count() + 1 {
+        let name = store.variable_name(column as u32);
+        if let Some(k) = store.find(name) {
+            if k < store.selected_count() {
+                write!(text, "{name}:{:?} ", store.class_at(k))?;
+            }
+        }
+    }
+    writeln!(text)?;
+    let mut row = first_row;
+    for file in 0..store.file_count() {
+        write_rows_of(alloc, shelf, &store, file, &mut row, text);
+    }
+    Ok(())
+}
+
+/// A shelf with these files.
+fn shelf_of(
+    rt: &impl Abort,
+    alloc: Global,
+    files: &[(&str, &[u8])],
+) -> Result<MemShelf, AllocError> {
+    let mut held = Vec::new(alloc);
+    for (name, bytes) in files {
+        held.push((String::from_str(alloc, name)?, bytes.to_vec(alloc)?))?;
+    }
+    assert!(rt; has_distinct_names(held.as_slice()));
+    MemShelf::new(alloc, held)
+}
+
+/// The variables and rows of a datastore over these files, as text.
+fn text_of(
+    rt: &impl Abort,
+    alloc: Global,
+    files: &[(&str, &[u8])],
+    plan: &str,
+) -> Result<String, AllocError> {
+    text_from(rt, alloc, files, plan, 1)
+}
+
+/// The same where the first row has another number.
+fn text_from(
+    rt: &impl Abort,
+    alloc: Global,
+    files: &[(&str, &[u8])],
+    plan: &str,
+    first_row: u64,
+) -> Result<String, AllocError> {
+    let mut text = String::new(alloc);
+    let mut shelf = shelf_of(rt, alloc, files)?;
+    let options = options_of(alloc, plan)?;
+    if options.files.len() < 1 << 20 {
+        let opened = Datastore::open(alloc, &mut shelf, options);
+        write_store(alloc, &mut shelf, opened, first_row, &mut text)?;
+    }
+    Ok(text)
+}
+
+/// Files of one variable with a plan, and what they give.
+const VALUES: [(&[u8], &str, &str); 17] = [
+    (
+        b"\xEF\xBB\xBFx\r\n 5 \r\n2.5\r\n\"\"\r\n",
+        "formats d8",
+        "x:Int8 \n 5\n 3\n 0\n",
+    ),
+    (
+        b"x\n-2.5\n1e400\n-1e400\n127.5\nnan\nInf\n-inf\n",
+        "formats d8",
+        "x:Int8 \n -3\n 127\n -128\n 127\n 0\n 127\n -128\n",
+    ),
+    (
+        b"x\n-1\n300\n+Inf\nNaN\n",
+        "formats u8",
+        "x:Uint8 \n 0\n 255\n 255\n 0\n",
+    ),
+    (
+        b"x\n-Inf\n9223372036854775807\n",
+        "formats d64",
+        "x:Int64 \n -9223372036854775808\n 9223372036854775807\n",
+    ),
+    (
+        b"x\n18446744073709551616\n",
+        "formats u64",
+        "x:Uint64 \n 18446744073709551615\n",
+    ),
+    (
+        b"x\n3e4\n-40000\n",
+        "formats d16",
+        "x:Int16 \n 30000\n -32768\n",
+    ),
+    (b"x\n65535.5\n", "formats u16", "x:Uint16 \n 65535\n"),
+    (
+        b"x\n-2147483648.4\n",
+        "formats d32",
+        "x:Int32 \n -2147483648\n",
+    ),
+    (
+        b"x\n4294967295\n",
+        "formats u32",
+        "x:Uint32 \n 4294967295\n",
+    ),
+    (
+        b"x\n-2.50e2\nNaN\n\" \t\"\n9007199254740992\n",
+        "formats f",
+        "x:Double \n -250\n NaN\n NaN\n 9007199254740992\n",
+    ),
+    (
+        b"x\nInf\n",
+        "formats f",
+        "x:Double \nInexact at file 0 row 1 column 1\n",
+    ),
+    (
+        b"x\n1\n0.5\n",
+        "formats f",
+        "x:Double \nNotWhole at file 0 row 2 column 1\n",
+    ),
+    (
+        b"x\n\"a\"\"b\"\n NA \n\xC3\xA9\n",
+        "formats q|missing NA",
+        "x:Text \n \"a\\\"b\"\n \" NA \"\n \"\u{E9}\"\n",
+    ),
+    (
+        b"x\na\n\xFF\n",
+        "formats q",
+        "x:Text \nBadText at file 0 row 2 column 1\n",
+    ),
+    (
+        b"x\nNA\n -\t\n5\n",
+        "missing NA,-,5|formats d8",
+        "x:Int8 \n 0\n 0\n 0\n",
+    ),
+    (
+        b"x\nNA\nna\n",
+        "missing NA|formats d8",
+        "x:Int8 \nBadField at file 0 row 2 column 1\n",
+    ),
+    (
+        b"x\n -9.5 \n1\n",
+        "missing -9.5|formats f",
+        "x:Double \n NaN\n 1\n",
+    ),
+];
+
+#[test]
+fn fields_have_their_values(rt: HostRuntime) -> Result<(), Fail> {
+    for (bytes, plan, wanted) in VALUES {
+        let text = text_of(&rt, rt.alloc(), &[("a.csv", bytes)], plan)?;
+        assert_eq!(rt; text.as_str(), wanted);
+    }
+    Ok(())
+}
+
+/// Files whose names and formats are found, and what they give.
+const OPENINGS: [(&[u8], &str, &str); 19] = [
+    (
+        b"a,a_1,a\n1,2,3\n",
+        "",
+        "a:Double a_1:Double a_2:Double \n 1 2 3\n",
+    ),
+    (
+        b"x,x,\n1,2,3\n",
+        "",
+        "x:Double x_1:Double Var3:Double \n 1 2 3\n",
+    ),
+    // The first data record decides, and not the header.
+    (
+        b"1,y,z,w\n1,a, ,NA\n",
+        "missing NA",
+        "1:Double y:Text z:Double w:Double \n 1 \"a\" NaN NaN\n",
+    ),
+    // A variable without a field counts as missing.
+    (b"x,y\nb\n", "", "x:Text y:Double \n \"b\" NaN\n"),
+    (b"x\n", "", "x:Double \n"),
+    (
+        b"5;b\n",
+        "delimiter 59|names no",
+        "Var1:Double Var2:Text \n 5 \"b\"\n",
+    ),
+    (
+        b"x,y\n1,2\n3,4\n",
+        "select y,x",
+        "x:Double y:Double \n 2 1\n 4 3\n",
+    ),
+    // A variable that isn't selected is not converted.
+    (b"x,y\n?,2\n", "select y|formats d8,u64", "y:Uint64 \n 2\n"),
+    (b"", "", "NoHeader"),
+    (b"\xEF\xBB\xBF\n\r\n", "", "NoHeader"),
+    (b"\n", "names no", "NoHeader"),
+    (b"x,\xFF\n1,2\n", "", "NoHeader"),
+    (
+        b"x,\xFF\n1,2\n",
+        "names no",
+        "Var1:Text Var2:Text \nBadText at file 0 row 1 column 2\n",
+    ),
+    // The header comes before what needs the variables.
+    (b"", "select y", "NoHeader"),
+    (b"x\n1\n", "select y", "BadArgument"),
+    (b"x,y\n1,2\n", "formats d8", "BadArgument"),
+    (b"x\n1\n", "formats d8,d8", "BadArgument"),
+    (b"x\n1\n", "files b.csv|select y", "NoFile"),
+    (b"x\n1\n", "files b.csv,a.csv", "NoFile"),
+];
+
+#[test]
+fn openings_find_names_and_formats(rt: HostRuntime) -> Result<(), Fail> {
+    for (bytes, plan, wanted) in OPENINGS {
+        let text = text_of(&rt, rt.alloc(), &[("a.csv", bytes)], plan)?;
+        assert_eq!(rt; text.as_str(), wanted);
+    }
+    Ok(())
+}
+
+#[test]
+fn options_are_refused_before_a_file_is_opened(rt: HostRuntime) -> Result<(), Fail> {
+    for plan in [
+        "files ",
+        "files a.csv,b.csv,a.csv",
+        "delimiter 34",
+        "delimiter 13",
+        "delimiter 10",
+        "delimiter 128",
+        "size 0",
+        "size 2147483648",
+        "select ",
+        "select x,x",
+        "formats ",
+        // They come before a file that isn't there, and before one without a header.
+        "files none.csv|size 0",
+        "files none.csv|select ",
+        "files empty.csv|delimiter 34",
+        "files none.csv,none.csv",
+    ] {
+        let mut shelf = shelf_of(&rt, rt.alloc(), &[("a.csv", b"x\n"), ("empty.csv", b"")])?;
+        let options = options_of(rt.alloc(), plan)?;
+        assert!(rt; options.files.len() < 1 << 20);
+        let opened = Datastore::open(rt.alloc(), &mut shelf, options);
+        assert!(rt; matches!(opened, Err(StoreFault::BadArgument)), "{plan}");
+        assert_eq!(rt; (shelf.opens("a.csv"), shelf.opens("none.csv")), (0, 0));
+    }
+    Ok(())
+}
+
+/// Two files with a plan, and how their text ends: their first reading fault, or their rows.
+const FAULTS: [(&[u8], &[u8], &str, &str); 13] = [
+    (
+        b"x,y\n1,2\n3\n",
+        b"x,y\n200,4\n",
+        "",
+        "x:Double y:Double \n 1 2\n 3 NaN\n 200 4\n",
+    ),
+    // By row before column.
+    (
+        b"x,y\n1,?\n?,2\n",
+        b"x,y\n",
+        "formats f,f",
+        "BadField at file 0 row 1 column 2\n",
+    ),
+    // In one row by the column of the file, and not the place in the selection.
+    (
+        b"x,y\n?,2.5\n",
+        b"x,y\n",
+        "formats f,f|select y,x",
+        "BadField at file 0 row 1 column 1\n",
+    ),
+    (
+        b"x,y\n2.5,?\n",
+        b"x,y\n",
+        "formats f,f|select y,x",
+        "NotWhole at file 0 row 1 column 1\n",
+    ),
+    (
+        b"x,y\n1,9007199254740993\n0.5,1\n",
+        b"x,y\n",
+        "formats f,f",
+        "Inexact at file 0 row 1 column 2\n",
+    ),
+    (
+        b"x,y\n?,2.5,\n",
+        b"x,y\n",
+        "formats f,f",
+        "TooManyFields at file 0 row 1 column 0\n",
+    ),
+    (
+        b"x,y\n?,2\n1,2,3\n",
+        b"x,y\n",
+        "formats f,f",
+        "BadField at file 0 row 1 column 1\n",
+    ),
+    // All variables count, selected or not.
+    (
+        b"x,y\n?,2\n",
+        b"x,y\n,,,\n",
+        "formats f,f|select y",
+        "TooManyFields at file 1 row 2 column 0\n",
+    ),
+    (
+        b"x,y\n1,2\n",
+        b"x,z\n?,?\n",
+        "formats f,f",
+        "HeaderDiffers at file 1 row 2\n",
+    ),
+    (
+        b"x,y\n1,2\n",
+        b"x,y,z\n",
+        "formats f,f",
+        "HeaderDiffers at file 1 row 2\n",
+    ),
+    (
+        b"x,y\n",
+        b"",
+        "formats f,f",
+        "HeaderDiffers at file 1 row 1\n",
+    ),
+    (
+        b"x,y\n1,2\n",
+        b"x,y\n3,4\n?,1\n",
+        "formats f,f",
+        "BadField at file 1 row 3 column 1\n",
+    ),
+    (
+        b"1,2\n",
+        b"",
+        "formats f,f|names no",
+        "Var1:Double Var2:Double \n 1 2\n",
+    ),
+];
+
+#[test]
+fn the_first_fault_is_the_same_for_each_size(rt: HostRuntime) -> Result<(), Fail> {
+    for (a, b, plan, wanted) in FAULTS {
+        for size in ["1", "2", "file"] {
+            let plan = format!(in rt.alloc(); "files a.csv,b.csv|size {size}|{plan}")?;
+            let files = [("a.csv", a), ("b.csv", b)];
+            let text = text_of(&rt, rt.alloc(), &files, plan.as_str())?;
+            assert!(rt;
+                text.as_str().ends_with(wanted),
+                "{plan}: {text} and not {wanted}"
+            );
+        }
+    }
+    let files: &[(&str, &[u8])] = &[("a.csv", b"x,y\n1,2\n")];
+    let absent = text_of(&rt, rt.alloc(), files, "files a.csv,b.csv")?;
+    assert!(rt; absent.as_str().ends_with("NoFile at file 1 row 2\n"));
+    Ok(())
+}
+
+#[test]
+fn the_row_after_the_last_is_refused(rt: HostRuntime) -> Result<(), Fail> {
+    let last = (1 << 40) - 1;
+    // The fault comes before all faults of its row, and after those of rows before.
+    for (bytes, first_row, wanted) in [
+        (b"x\n1\n".as_slice(), last, "x:Double \n 1\n"),
+        (
+            b"x\n1\n?,?\n",
+            last,
+            "TooManyRows at file 0 row 1099511627776 column 0\n",
+        ),
+        (
+            b"x\n?\n",
+            last + 1,
+            "TooManyRows at file 0 row 1099511627776 column 0\n",
+        ),
+        (
+            b"x\n?\n1\n",
+            last,
+            "BadField at file 0 row 1099511627775 column 1\n",
+        ),
+    ] {
+        let files: &[(&str, &[u8])] = &[("a.csv", bytes)];
+        let text = text_from(&rt, rt.alloc(), files, "formats f", first_row)?;
+        assert!(rt; text.as_str().ends_with(wanted), "{text} and not {wanted}");
+    }
+    Ok(())
+}
+
+/// The datastore of these files, as it is opened.
+fn store_of(
+    rt: &impl Abort,
+    alloc: Global,
+    files: &[(&str, &[u8])],
+) -> Result<Result<Datastore, StoreFault>, AllocError> {
+    let mut shelf = shelf_of(rt, alloc, files)?;
+    let options = options_of(alloc, "")?;
+    if options.files.len() >= 1 << 20 {
+        return Err(AllocError);
+    }
+    Ok(Datastore::open(alloc, &mut shelf, options))
+}
+
+/// Whether an answer is the refusal.
+fn is_refused(answer: &Result<Datastore, StoreFault>) -> bool {
+    matches!(answer, Err(StoreFault::BadArgument))
+}
+
+#[test]
+fn properties_are_changed(rt: HostRuntime) -> Result<(), Fail> {
+    let Ok(store) = store_of(&rt, rt.alloc(), &[("a.csv", b"x,y\n1,b\n")])? else {
+        return Err("not opened".into());
+    };
+    assert_eq!(rt;
+        (store.find("y"), store.find("z"), store.find("")),
+        (Some(1), None, None)
+    );
+    assert_eq!(rt; store.size(), ReadSize::Rows(20000));
+    let Ok(sized) = store.with_size(ReadSize::File) else {
+        return Err("not sized".into());
+    };
+    let chosen = strings(rt.alloc(), "y")?;
+    let Ok(selected) = sized.with_selected(chosen.as_slice()) else {
+        return Err("not selected".into());
+    };
+    assert_eq!(rt; (selected.find("y"), selected.find("x")), (Some(0), None));
+    assert_eq!(rt;
+        (selected.selected_count(), selected.size()),
+        (1, ReadSize::File)
+    );
+    let Ok(formatted) = selected.with_formats(&[Format::Text, Format::Uint8]) else {
+        return Err("not formatted".into());
+    };
+    if formatted.selected_count() > 0 {
+        assert_eq!(rt; formatted.class_at(0), Class::Uint8);
+    }
+    Ok(())
+}
+
+#[test]
+fn properties_are_refused(rt: HostRuntime) -> Result<(), Fail> {
+    let Ok(store) = store_of(&rt, rt.alloc(), &[("a.csv", b"x,y\n1,b\n")])? else {
+        return Err("not opened".into());
+    };
+    assert!(rt; is_refused(&store.with_size(ReadSize::Rows(0))));
+    assert!(rt; is_refused(&store.with_size(ReadSize::Rows(1 << 31))));
+    assert!(rt; is_refused(&store.with_formats(&[Format::Text])));
+    for names in ["", "z", "y,y", "x,z"] {
+        let names = strings(rt.alloc(), names)?;
+        assert!(rt; is_refused(&store.with_selected(names.as_slice())));
+    }
+    Ok(())
+}
+
+#[test]
+fn a_first_record_of_too_many_fields_is_refused(rt: HostRuntime) -> Result<(), Fail> {
+    let mut bytes = Vec::new(rt.alloc());
+    for _comma in 0..(1u32 << 20) - 1 {
+        bytes.push(b',')?;
+    }
+    let opened = store_of(&rt, rt.alloc(), &[("a.csv", bytes.as_slice())])?;
+    assert!(rt; is_refused(&opened));
+    bytes.push(0xFF)?;
+    let opened = store_of(&rt, rt.alloc(), &[("a.csv", bytes.as_slice())])?;
+    assert!(rt; matches!(opened, Err(StoreFault::NoHeader)));
+    Ok(())
+}
+
+#[test]
+fn failures_of_the_shelf_are_told(rt: HostRuntime) -> Result<(), Fail> {
+    for call in 0..=5u64 {
+        let mut shelf = shelf_of(&rt, rt.alloc(), &[("a.csv", b"x\n1\n")])?;
+        shelf.give_at_most(1);
+        if call == 0 {
+            shelf.fail_open(1)?;
+        } else {
+            shelf.fail_read(call)?;
+        }
+        let options = options_of(rt.alloc(), "")?;
+        assert!(rt; options.files.len() < 1 << 20);
+        let opened = Datastore::open(rt.alloc(), &mut shelf, options);
+        assert!(rt;
+            matches!(opened, Ok(_) | Err(StoreFault::Failed)),
+            "call {call}"
+        );
+        assert!(rt; opened.is_ok() == (shelf.faults() == 0), "call {call}");
+    }
+    Ok(())
+}
