@@ -20,3 +20,4 @@ pub mod FieldRows
 pub mod NameRows
 pub mod OpeningRows
 pub mod StoredRows
+pub mod BlockRows

@@ -403,12 +403,22 @@ const VALUES: [(&[u8], &str, &str); 17] = [
     ),
 ];
 
+/// Each file gives its text.
+fn all_give(
+    rt: &impl Abort,
+    alloc: Global,
+    rows: &[(&[u8], &str, &str)],
+) -> Result<(), AllocError> {
+    for row in rows {
+        let text = text_of(rt, alloc, &[("a.csv", row.0)], row.1)?;
+        assert_eq!(rt; text.as_str(), row.2);
+    }
+    Ok(())
+}
+
 #[test]
 fn fields_have_their_values(rt: HostRuntime) -> Result<(), Fail> {
-    for (bytes, plan, wanted) in VALUES {
-        let text = text_of(&rt, rt.alloc(), &[("a.csv", bytes)], plan)?;
-        assert_eq!(rt; text.as_str(), wanted);
-    }
+    all_give(&rt, rt.alloc(), &VALUES)?;
     Ok(())
 }
 
@@ -465,39 +475,60 @@ const OPENINGS: [(&[u8], &str, &str); 19] = [
 
 #[test]
 fn openings_find_names_and_formats(rt: HostRuntime) -> Result<(), Fail> {
-    for (bytes, plan, wanted) in OPENINGS {
-        let text = text_of(&rt, rt.alloc(), &[("a.csv", bytes)], plan)?;
-        assert_eq!(rt; text.as_str(), wanted);
-    }
+    all_give(&rt, rt.alloc(), &OPENINGS)?;
+    Ok(())
+}
+
+/// Options that are refused before a file is opened.
+const REFUSED: [&str; 15] = [
+    "files ",
+    "files a.csv,b.csv,a.csv",
+    "delimiter 34",
+    "delimiter 13",
+    "delimiter 10",
+    "delimiter 128",
+    "size 0",
+    "size 2147483648",
+    "select ",
+    "select x,x",
+    "formats ",
+    // They come before a file that isn't there, and before one without a header.
+    "files none.csv|size 0",
+    "files none.csv|select ",
+    "files empty.csv|delimiter 34",
+    "files none.csv,none.csv",
+];
+
+/// Whether an answer is the refusal.
+fn is_refused(answer: &Result<Datastore, StoreFault>) -> bool {
+    matches!(answer, Err(StoreFault::BadArgument))
+}
+
+/// The datastore of a plan over a shelf.
+fn open_plan(
+    rt: &impl Abort,
+    alloc: Global,
+    shelf: &mut MemShelf,
+    plan: &str,
+) -> Result<Result<Datastore, StoreFault>, AllocError> {
+    let options = options_of(alloc, plan)?;
+    assert!(rt; options.files.len() < 1 << 20);
+    Ok(Datastore::open(alloc, shelf, options))
+}
+
+/// A plan is refused, and no file is opened.
+fn refuses(rt: &impl Abort, alloc: Global, plan: &str) -> Result<(), AllocError> {
+    let mut shelf = shelf_of(rt, alloc, &[("a.csv", b"x\n"), ("empty.csv", b"")])?;
+    let opened = open_plan(rt, alloc, &mut shelf, plan)?;
+    assert!(rt; is_refused(&opened), "{plan}");
+    assert_eq!(rt; (shelf.opens("a.csv"), shelf.opens("none.csv")), (0, 0));
     Ok(())
 }
 
 #[test]
 fn options_are_refused_before_a_file_is_opened(rt: HostRuntime) -> Result<(), Fail> {
-    for plan in [
-        "files ",
-        "files a.csv,b.csv,a.csv",
-        "delimiter 34",
-        "delimiter 13",
-        "delimiter 10",
-        "delimiter 128",
-        "size 0",
-        "size 2147483648",
-        "select ",
-        "select x,x",
-        "formats ",
-        // They come before a file that isn't there, and before one without a header.
-        "files none.csv|size 0",
-        "files none.csv|select ",
-        "files empty.csv|delimiter 34",
-        "files none.csv,none.csv",
-    ] {
-        let mut shelf = shelf_of(&rt, rt.alloc(), &[("a.csv", b"x\n"), ("empty.csv", b"")])?;
-        let options = options_of(rt.alloc(), plan)?;
-        assert!(rt; options.files.len() < 1 << 20);
-        let opened = Datastore::open(rt.alloc(), &mut shelf, options);
-        assert!(rt; matches!(opened, Err(StoreFault::BadArgument)), "{plan}");
-        assert_eq!(rt; (shelf.opens("a.csv"), shelf.opens("none.csv")), (0, 0));
+    for plan in &REFUSED {
+        refuses(&rt, rt.alloc(), plan)?;
     }
     Ok(())
 }
@@ -587,151 +618,203 @@ const FAULTS: [(&[u8], &[u8], &str, &str); 13] = [
     ),
 ];
 
+/// Two files give text with this end, in blocks of each size.
+fn ends_with(
+    rt: &impl Abort,
+    alloc: Global,
+    files: &[(&str, &[u8])],
+    plan: &str,
+    wanted: &str,
+) -> Result<(), AllocError> {
+    for size in &["1", "2", "file"] {
+        let plan = format!(in alloc; "files a.csv,b.csv|size {size}|{plan}")?;
+        let text = text_of(rt, alloc, files, plan.as_str())?;
+        assert!(rt;
+            text.as_str().ends_with(wanted),
+            "{plan}: {text} and not {wanted}"
+        );
+    }
+    Ok(())
+}
+
+/// Each two files give text with their end.
+fn all_end_with(
+    rt: &impl Abort,
+    alloc: Global,
+    rows: &[(&[u8], &[u8], &str, &str)],
+) -> Result<(), AllocError> {
+    for row in rows {
+        ends_with(
+            rt,
+            alloc,
+            &[("a.csv", row.0), ("b.csv", row.1)],
+            row.2,
+            row.3,
+        )?;
+    }
+    Ok(())
+}
+
 #[test]
 fn the_first_fault_is_the_same_for_each_size(rt: HostRuntime) -> Result<(), Fail> {
-    for (a, b, plan, wanted) in FAULTS {
-        for size in ["1", "2", "file"] {
-            let plan = format!(in rt.alloc(); "files a.csv,b.csv|size {size}|{plan}")?;
-            let files = [("a.csv", a), ("b.csv", b)];
-            let text = text_of(&rt, rt.alloc(), &files, plan.as_str())?;
-            assert!(rt;
-                text.as_str().ends_with(wanted),
-                "{plan}: {text} and not {wanted}"
-            );
-        }
-    }
-    let files: &[(&str, &[u8])] = &[("a.csv", b"x,y\n1,2\n")];
-    let absent = text_of(&rt, rt.alloc(), files, "files a.csv,b.csv")?;
-    assert!(rt; absent.as_str().ends_with("NoFile at file 1 row 2\n"));
+    all_end_with(&rt, rt.alloc(), &FAULTS)?;
+    let absent: &[(&str, &[u8])] = &[("a.csv", b"x,y\n1,2\n")];
+    ends_with(&rt, rt.alloc(), absent, "", "NoFile at file 1 row 2\n")?;
+    Ok(())
+}
+
+/// A file whose first row has this number gives text with this end.
+fn ends_from(
+    rt: &impl Abort,
+    alloc: Global,
+    bytes: &[u8],
+    first_row: u64,
+    wanted: &str,
+) -> Result<(), AllocError> {
+    let text = text_from(rt, alloc, &[("a.csv", bytes)], "formats f", first_row)?;
+    assert!(rt; text.as_str().ends_with(wanted), "{text} and not {wanted}");
     Ok(())
 }
 
 #[test]
 fn the_row_after_the_last_is_refused(rt: HostRuntime) -> Result<(), Fail> {
     let last = (1 << 40) - 1;
+    let limit = "TooManyRows at file 0 row 1099511627776 column 0\n";
+    ends_from(&rt, rt.alloc(), b"x\n1\n", last, "x:Double \n 1\n")?;
     // The fault comes before all faults of its row, and after those of rows before.
-    for (bytes, first_row, wanted) in [
-        (b"x\n1\n".as_slice(), last, "x:Double \n 1\n"),
-        (
-            b"x\n1\n?,?\n",
-            last,
-            "TooManyRows at file 0 row 1099511627776 column 0\n",
-        ),
-        (
-            b"x\n?\n",
-            last + 1,
-            "TooManyRows at file 0 row 1099511627776 column 0\n",
-        ),
-        (
-            b"x\n?\n1\n",
-            last,
-            "BadField at file 0 row 1099511627775 column 1\n",
-        ),
-    ] {
-        let files: &[(&str, &[u8])] = &[("a.csv", bytes)];
-        let text = text_from(&rt, rt.alloc(), files, "formats f", first_row)?;
-        assert!(rt; text.as_str().ends_with(wanted), "{text} and not {wanted}");
-    }
+    ends_from(&rt, rt.alloc(), b"x\n1\n?,?\n", last, limit)?;
+    ends_from(&rt, rt.alloc(), b"x\n?\n", last + 1, limit)?;
+    let before = "BadField at file 0 row 1099511627775 column 1\n";
+    ends_from(&rt, rt.alloc(), b"x\n?\n1\n", last, before)?;
     Ok(())
 }
 
-/// The datastore of these files, as it is opened.
-fn store_of(
-    rt: &impl Abort,
-    alloc: Global,
-    files: &[(&str, &[u8])],
-) -> Result<Result<Datastore, StoreFault>, AllocError> {
-    let mut shelf = shelf_of(rt, alloc, files)?;
-    let options = options_of(alloc, "")?;
-    if options.files.len() >= 1 << 20 {
-        return Err(AllocError);
+/// A datastore of the variables x and y.
+fn xy(rt: &impl Abort, alloc: Global) -> Result<Datastore, AllocError> {
+    let mut shelf = shelf_of(rt, alloc, &[("a.csv", b"x,y\n1,b\n")])?;
+    match open_plan(rt, alloc, &mut shelf, "")? {
+        Ok(store) => Ok(store),
+        Err(_) => Err(AllocError),
     }
-    Ok(Datastore::open(alloc, &mut shelf, options))
 }
 
-/// Whether an answer is the refusal.
-fn is_refused(answer: &Result<Datastore, StoreFault>) -> bool {
-    matches!(answer, Err(StoreFault::BadArgument))
+/// The datastore that a change made.
+fn changed(answer: Result<Datastore, StoreFault>) -> Result<Datastore, AllocError> {
+    match answer {
+        Ok(store) => Ok(store),
+        Err(_) => Err(AllocError),
+    }
+}
+
+/// The names of a list are refused as a selection.
+fn refuses_selection(
+    rt: &impl Abort,
+    alloc: Global,
+    store: &Datastore,
+    names: &str,
+) -> Result<(), AllocError> {
+    let names = strings(alloc, names)?;
+    assert!(rt; is_refused(&store.with_selected(names.as_slice())));
+    Ok(())
+}
+
+/// The place of a name in the selection, as a number that is -1 where there is none.
+fn place(store: &Datastore, name: &str) -> i64 {
+    match store.find(name) {
+        Some(k) => k as i64,
+        None => -1,
+    }
+}
+
+/// The selection of y alone.
+fn y_alone(alloc: Global, store: &Datastore) -> Result<Datastore, AllocError> {
+    let names = strings(alloc, "y")?;
+    changed(store.with_selected(names.as_slice()))
+}
+
+/// What is told of a datastore of y alone.
+fn is_y_alone(store: &Datastore) -> bool {
+    place(store, "y") == 0 && place(store, "x") == -1 && store.selected_count() == 1
 }
 
 #[test]
-fn properties_are_changed(rt: HostRuntime) -> Result<(), Fail> {
-    let Ok(store) = store_of(&rt, rt.alloc(), &[("a.csv", b"x,y\n1,b\n")])? else {
-        return Err("not opened".into());
-    };
-    assert_eq!(rt;
-        (store.find("y"), store.find("z"), store.find("")),
-        (Some(1), None, None)
-    );
-    assert_eq!(rt; store.size(), ReadSize::Rows(20000));
-    let Ok(sized) = store.with_size(ReadSize::File) else {
-        return Err("not sized".into());
-    };
-    let chosen = strings(rt.alloc(), "y")?;
-    let Ok(selected) = sized.with_selected(chosen.as_slice()) else {
-        return Err("not selected".into());
-    };
-    assert_eq!(rt; (selected.find("y"), selected.find("x")), (Some(0), None));
-    assert_eq!(rt;
-        (selected.selected_count(), selected.size()),
-        (1, ReadSize::File)
-    );
-    let Ok(formatted) = selected.with_formats(&[Format::Text, Format::Uint8]) else {
-        return Err("not formatted".into());
-    };
-    if formatted.selected_count() > 0 {
-        assert_eq!(rt; formatted.class_at(0), Class::Uint8);
-    }
+fn a_selection_keeps_what_it_names(rt: HostRuntime) -> Result<(), Fail> {
+    let store = xy(&rt, rt.alloc())?;
+    assert!(rt; place(&store, "y") == 1 && place(&store, "z") == -1);
+    let selected = y_alone(rt.alloc(), &store)?;
+    assert!(rt; is_y_alone(&selected));
+    Ok(())
+}
+
+#[test]
+fn a_change_keeps_the_rest(rt: HostRuntime) -> Result<(), Fail> {
+    let selected = y_alone(rt.alloc(), &xy(&rt, rt.alloc())?)?;
+    let sized = changed(selected.with_size(ReadSize::File))?;
+    assert!(rt; is_y_alone(&sized) && sized.size() == ReadSize::File);
+    let formatted = changed(sized.with_formats(&[Format::Text, Format::Uint8]))?;
+    assert!(rt; formatted.selected_count() > 0 && formatted.class_at(0) == Class::Uint8);
     Ok(())
 }
 
 #[test]
 fn properties_are_refused(rt: HostRuntime) -> Result<(), Fail> {
-    let Ok(store) = store_of(&rt, rt.alloc(), &[("a.csv", b"x,y\n1,b\n")])? else {
-        return Err("not opened".into());
-    };
+    let store = xy(&rt, rt.alloc())?;
     assert!(rt; is_refused(&store.with_size(ReadSize::Rows(0))));
     assert!(rt; is_refused(&store.with_size(ReadSize::Rows(1 << 31))));
     assert!(rt; is_refused(&store.with_formats(&[Format::Text])));
-    for names in ["", "z", "y,y", "x,z"] {
-        let names = strings(rt.alloc(), names)?;
-        assert!(rt; is_refused(&store.with_selected(names.as_slice())));
+    for names in &["", "z", "y,y", "x,z"] {
+        refuses_selection(&rt, rt.alloc(), &store, names)?;
     }
     Ok(())
 }
 
-#[test]
-fn a_first_record_of_too_many_fields_is_refused(rt: HostRuntime) -> Result<(), Fail> {
-    let mut bytes = Vec::new(rt.alloc());
+/// Whether a file of so many commas and these bytes is refused with this fault.
+fn is_refused_with(
+    rt: &impl Abort,
+    alloc: Global,
+    last: &[u8],
+    wanted: StoreFault,
+) -> Result<bool, AllocError> {
+    let mut bytes = Vec::new(alloc);
     for _comma in 0..(1u32 << 20) - 1 {
         bytes.push(b',')?;
     }
-    let opened = store_of(&rt, rt.alloc(), &[("a.csv", bytes.as_slice())])?;
-    assert!(rt; is_refused(&opened));
-    bytes.push(0xFF)?;
-    let opened = store_of(&rt, rt.alloc(), &[("a.csv", bytes.as_slice())])?;
-    assert!(rt; matches!(opened, Err(StoreFault::NoHeader)));
+    bytes.extend_from_slice(last)?;
+    let mut shelf = shelf_of(rt, alloc, &[("a.csv", bytes.as_slice())])?;
+    match open_plan(rt, alloc, &mut shelf, "")? {
+        Ok(_) => Ok(false),
+        Err(fault) => Ok(fault == wanted),
+    }
+}
+
+#[test]
+fn a_first_record_of_too_many_fields_is_refused(rt: HostRuntime) -> Result<(), Fail> {
+    assert!(rt; is_refused_with(&rt, rt.alloc(), b"", StoreFault::BadArgument)?);
+    assert!(rt; is_refused_with(&rt, rt.alloc(), b"\xFF", StoreFault::NoHeader)?);
+    Ok(())
+}
+
+/// The opening of the shelf fails, or the read of this number, counted from 1; the answer tells it.
+fn tells_failure(rt: &impl Abort, alloc: Global, call: u64) -> Result<(), AllocError> {
+    let mut shelf = shelf_of(rt, alloc, &[("a.csv", b"x\n1\n")])?;
+    shelf.give_at_most(1);
+    if call == 0 {
+        shelf.fail_open(1)?;
+    } else {
+        shelf.fail_read(call)?;
+    }
+    let has_failed = match open_plan(rt, alloc, &mut shelf, "")? {
+        Ok(_) => false,
+        Err(fault) => fault == StoreFault::Failed,
+    };
+    assert!(rt; has_failed == (shelf.faults() > 0), "call {call}");
     Ok(())
 }
 
 #[test]
 fn failures_of_the_shelf_are_told(rt: HostRuntime) -> Result<(), Fail> {
-    for call in 0..=5u64 {
-        let mut shelf = shelf_of(&rt, rt.alloc(), &[("a.csv", b"x\n1\n")])?;
-        shelf.give_at_most(1);
-        if call == 0 {
-            shelf.fail_open(1)?;
-        } else {
-            shelf.fail_read(call)?;
-        }
-        let options = options_of(rt.alloc(), "")?;
-        assert!(rt; options.files.len() < 1 << 20);
-        let opened = Datastore::open(rt.alloc(), &mut shelf, options);
-        assert!(rt;
-            matches!(opened, Ok(_) | Err(StoreFault::Failed)),
-            "call {call}"
-        );
-        assert!(rt; opened.is_ok() == (shelf.faults() == 0), "call {call}");
+    for call in 0..6u64 {
+        tells_failure(&rt, rt.alloc(), call)?;
     }
     Ok(())
 }
