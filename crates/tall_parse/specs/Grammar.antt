@@ -1,13 +1,13 @@
 -- The grammar: which tokens are which script. One case stands for each production; parts stand before wholes. All
 -- operators between two operands group to the left. Expressions are numbered through the script, the parts first and
 -- then the whole: an expression from the number m on is followed by the number n.
-use Rattle.std.specs.Prelude.{ℕ, suc, ◌≡◌, ◌&&◌, not, Bool, true, false, IsTrue, List, [], ◌∷◌, ◌++◌, map, Option, Some, None, codes}
+use Rattle.std.specs.Prelude.{ℕ, suc, ◌≡◌, ◌&&◌, not, Bool, true, IsTrue, List, [], ◌∷◌, ◌++◌, map, Option, Some, None, codes}
 use Rattle.std.specs.List.{list_all, list_any}
 use Rattle.tall_parse.specs.declared.expressions.Prefix.{Prefix}
 use Rattle.tall_parse.specs.declared.expressions.Infix.{Infix}
 use Rattle.tall_parse.specs.declared.expressions.Infix.TheVariants.{Or, And}
 use Rattle.tall_parse.specs.Lexemes.{Lexeme, sign, word, name_token, number_token, text_token, number_value, text_value, is_separator, shows, is_text, comparison, additive, multiplicative, prefix_sign}
-use Rattle.tall_parse.specs.Trees.{Tree, tree, Shape, number, text, name, list, handle, prefixed, joined, member, call, Trees, no_trees, and_tree, Args, no_args, value_arg, colon_arg}
+use Rattle.tall_parse.specs.Trees.{Tree, tree, number, text, name, list, handle, prefixed, joined, member, call, Trees, no_trees, and_tree, Args, no_args, value_arg, colon_arg}
 use Rattle.tall_parse.specs.Trees.{Step, assign_step, add_step, if_step, while_step, for_step, Steps, no_steps, and_step, Arms, no_arms, and_arm, Body, assigned, gathered, property, bare, Entry, Routine, Program}
 
 -- { sep }

@@ -1,15 +1,15 @@
 -- Scripts of the grammar, each with its derivation.
-use Rattle.std.specs.Prelude.{ℕ, Bool, true, false, List, [], ◌∷◌, Option, Some, None, pos, codes, refl}
+use Rattle.std.specs.Prelude.{ℕ, Bool, true, false, [], ◌∷◌, Some, None, pos, codes, refl}
 use Rattle.tall_lex.specs.declared.tokens.TokenKind.TheVariants.{LineEnd}
-use Rattle.tall_parse.specs.declared.expressions.Prefix.TheVariants.{Minus, Plus, Not}
-use Rattle.tall_parse.specs.declared.expressions.Infix.TheVariants.{Or, And, Eq, Ne, Lt, Le, Gt, Ge, Add, Sub, DotMul, DotDiv, Mul, Div}
+use Rattle.tall_parse.specs.declared.expressions.Prefix.TheVariants.{Minus, Not}
+use Rattle.tall_parse.specs.declared.expressions.Infix.TheVariants.{Or, And, Eq, Gt, Add, Sub, DotMul, DotDiv}
 use Rattle.tall_parse.specs.Lexemes.{Lexeme, sign, word, name_token, number_token, text_token}
 use Rattle.tall_parse.specs.Grammar.{IsScript, a_script, a_script_to_the_end, no_statements, next_statement, name_body, gather_body, property_body, bare_body, no_more_names, more_names, no_comma, comma}
-use Rattle.tall_parse.specs.Grammar.{no_more_texts, more_texts, none_listed, some_listed, in_braces, in_brackets, without_args, with_args, last_value, last_colon, next_value, next_colon}
+use Rattle.tall_parse.specs.Grammar.{no_more_texts, more_texts, none_listed, some_listed, in_braces, in_brackets, with_args, last_value, last_colon, next_value}
 use Rattle.tall_parse.specs.Grammar.{one_conj, or_conj, one_cmp, and_cmp, one_sum, compared_sum, one_prod, added_prod, one_pre, multiplied_pre, one_post, prefixed_pre, one_primary, member_of, call_of, a_number, a_text, a_name, inside, a_list, a_handle}
-use Rattle.tall_parse.specs.Grammar.{named, passed_over, without_steps, next_step, name_step, adding_step, choosing_step, looping_step, counting_step, an_arm, no_else, an_else, an_elseif, no_functions, next_function}
-use Rattle.tall_parse.specs.Trees.{Tree, tree, number, text, name, list, handle, prefixed, joined, member, call, Trees, no_trees, and_tree, Args, no_args, value_arg, colon_arg}
-use Rattle.tall_parse.specs.Trees.{assign_step, add_step, if_step, while_step, for_step, no_steps, and_step, no_arms, and_arm, Body, assigned, gathered, property, bare, Entry, Program}
+use Rattle.tall_parse.specs.Grammar.{named, passed_over, without_steps, next_step, name_step, adding_step, choosing_step, looping_step, counting_step, an_arm, an_else, an_elseif, no_functions, next_function}
+use Rattle.tall_parse.specs.Trees.{tree, number, text, name, list, handle, prefixed, joined, member, call, no_trees, and_tree, no_args, value_arg, colon_arg}
+use Rattle.tall_parse.specs.Trees.{assign_step, add_step, if_step, while_step, for_step, no_steps, and_step, no_arms, and_arm, Body, assigned, gathered, property, bare, Entry}
 
 abbrev line_end : ℕ → Lexeme
 line_end l = record { kind = LineEnd; line = l; text = 10 ∷ [] }

@@ -1,5 +1,5 @@
 -- Tokens as the grammar sees them: by their kind, their line and their bytes.
-use Rattle.std.specs.Prelude.{ℕ, ℤ, Bool, true, false, ◌&&◌, ◌||◌, not, if◌then◌else◌, nat_eq, ◌==◌, List, [], ◌∷◌, ◌++◌, map, length, take, drop, Option, Some, None, Result, Ok, Err, codes}
+use Rattle.std.specs.Prelude.{ℕ, ℤ, Bool, true, false, ◌&&◌, ◌||◌, not, if◌then◌else◌, nat_eq, ◌==◌, List, [], ◌∷◌, ◌++◌, map, Option, Some, None, Result, Ok, Err, codes}
 use Rattle.std.specs.Cmp.Lexicographic.{pointwise}
 use Rattle.tall_num.specs.Spelling.{Spelling, spells}
 use Rattle.tall_num.specs.Values.{whole_value}
@@ -11,7 +11,7 @@ use Rattle.tall_lex.specs.Tokens.{token_text}
 use Rattle.tall_parse.specs.declared.expressions.Prefix.{Prefix}
 use Rattle.tall_parse.specs.declared.expressions.Prefix.TheVariants.{Minus, Plus, Not}
 use Rattle.tall_parse.specs.declared.expressions.Infix.{Infix}
-use Rattle.tall_parse.specs.declared.expressions.Infix.TheVariants.{Or, And, Eq, Ne, Lt, Le, Gt, Ge, Add, Sub, DotMul, DotDiv, Mul, Div}
+use Rattle.tall_parse.specs.declared.expressions.Infix.TheVariants.{Eq, Ne, Lt, Le, Gt, Ge, Add, Sub, DotMul, DotDiv, Mul, Div}
 
 pub record Lexeme : Type 0 where
   pub kind : TokenKind

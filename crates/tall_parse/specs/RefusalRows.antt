@@ -1,9 +1,9 @@
 -- Depths, heights and refusals, by computation.
-use Rattle.std.specs.Prelude.{◌≡◌, ℕ, suc, zero, List, [], ◌∷◌, ◌++◌, Option, Some, None, replicate, codes, pos, refl}
+use Rattle.std.specs.Prelude.{◌≡◌, ℕ, suc, zero, [], ◌∷◌, ◌++◌, Some, None, replicate, codes, pos, refl}
 use Rattle.tall_parse.specs.declared.expressions.Prefix.TheVariants.{Minus}
-use Rattle.tall_parse.specs.Lexemes.{Lexeme, sign, word, name_token, number_token, text_value, number_value}
-use Rattle.tall_parse.specs.Refusals.{too_deep, height, too_high, first_too_high}
-use Rattle.tall_parse.specs.Trees.{Tree, tree, number, text, name, list, handle, prefixed, joined, member, call, no_trees, and_tree, no_args, value_arg, colon_arg}
+use Rattle.tall_parse.specs.Lexemes.{sign, word, text_value, number_value}
+use Rattle.tall_parse.specs.Refusals.{too_deep, height, first_too_high}
+use Rattle.tall_parse.specs.Trees.{Tree, tree, text, name, list, prefixed, member, call, no_trees, and_tree, no_args, value_arg, colon_arg}
 
 -- ---- brackets and blocks
 

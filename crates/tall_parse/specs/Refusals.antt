@@ -1,6 +1,6 @@
 -- Which bytes are a script, and the first refusal of others: too long, a bad token, too deep by brackets and blocks, no
 -- script by the grammar, too deep by the height of an expression, in this order, each over the whole script.
-use Rattle.std.specs.Prelude.{ℕ, ◌+◌, ◌-◌, ◌<◌, ◌≤◌, ◌≡◌, ◌==◌, ◌||◌, Bool, if◌then◌else◌, nat_lt, max, List, [], ◌∷◌, ◌++◌, map, length, Option, Some, None, Result, Ok, Err, codes}
+use Rattle.std.specs.Prelude.{ℕ, ◌+◌, ◌-◌, ◌<◌, ◌≤◌, ◌≡◌, ◌||◌, Bool, if◌then◌else◌, nat_lt, max, List, [], ◌∷◌, ◌++◌, length, Option, Some, None, Ok, Err, codes}
 use Rattle.std.specs.List.{list_any, flat_map}
 use Rattle.tall_lex.specs.declared.tokens.Token.{Token}
 use Rattle.tall_lex.specs.Places.{beginning, past}
@@ -8,7 +8,7 @@ use Rattle.tall_lex.specs.Tokens.{tokens_of_bytes}
 use Rattle.tall_parse.specs.Lexemes.{Lexeme, lexemes_of, is_the_sign, is_the_word}
 use Rattle.tall_parse.specs.Grammar.{IsScript}
 use Rattle.tall_parse.specs.Trees.{Tree, tree, Shape, number, text, name, list, handle, prefixed, joined, member, call, Trees, no_trees, and_tree, Args, no_args, value_arg, colon_arg}
-use Rattle.tall_parse.specs.Trees.{Step, assign_step, add_step, if_step, while_step, for_step, Steps, no_steps, and_step, Arms, no_arms, and_arm, Body, assigned, gathered, property, bare, Entry, Routine, Program}
+use Rattle.tall_parse.specs.Trees.{Step, assign_step, add_step, if_step, while_step, for_step, Steps, no_steps, and_step, Arms, no_arms, and_arm, Body, assigned, gathered, property, bare, Program}
 
 -- ---- too deep by brackets and blocks
 
@@ -110,7 +110,8 @@ too_high s = first_too_high (program_trees s)
 
 -- ---- the first token with which no script goes on
 
--- some script begins with these tokens
+-- Some script begins with these tokens. The tokens that follow may be any: what is asked is whether the grammar goes on, not
+-- whether bytes spell what follows.
 abbrev pub GoesOn : List Lexeme → Type 0
 GoesOn ts = (more : List Lexeme) × (s : Program) × IsScript (ts ++ more) s
 

@@ -1,5 +1,5 @@
 -- What definitions see of the types of a script.
-use Rattle.std.specs.Prelude.{ℕ, ℤ, List, [], ◌∷◌, map, Option, Some, None}
+use Rattle.std.specs.Prelude.{List, [], ◌∷◌, map, Option, Some, None}
 use Rattle.tall_parse.specs.declared.expressions.Expr.{Expr, fold-Expr}
 use Rattle.tall_parse.specs.declared.expressions.Arg.{Arg, fold-Arg}
 use Rattle.tall_parse.specs.declared.expressions.Arg.TheOpen.{Arg-F, Node-F, Expr-F}

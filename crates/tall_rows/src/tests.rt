@@ -12,8 +12,6 @@ const SCRIPT: &str =
 
 const USAGE: &str = "tallrun: usage: tallrun [--workers N] SCRIPT\n";
 
-const NOT_BUILT: &str = "tallrun: not built\n";
-
 /// A run that is given, and what it has to come to.
 struct Row {
     name: &'static str,
@@ -110,6 +108,17 @@ const SUMS: &[Row] = &[
         line: "",
     },
     Row {
+        name: "a missing field is 0",
+        words: GO,
+        files: &[
+            ("s.m", SCRIPT),
+            ("a.csv", "\u{feff}x\r\n 5 \r\n2.5\r\n\"\"\r\n"),
+        ],
+        status: Status::Done,
+        text: "s = int16 8\n",
+        line: "",
+    },
+    Row {
         name: "no rows",
         words: GO,
         files: &[("s.m", SCRIPT), ("a.csv", "x\n")],
@@ -162,6 +171,38 @@ const REFUSALS: &[Row] = &[
         line: "tallrun: line 1: no file a.csv\n",
     },
     Row {
+        name: "data without a record",
+        words: GO,
+        files: &[("s.m", SCRIPT), ("a.csv", "\u{feff}\n\n")],
+        status: Status::Fault,
+        text: "",
+        line: "tallrun: line 1: no header in a.csv\n",
+    },
+    Row {
+        name: "one format for two variables",
+        words: GO,
+        files: &[("s.m", SCRIPT), ("a.csv", "x,y\n1,2\n")],
+        status: Status::Fault,
+        text: "",
+        line: "tallrun: line 1: argument not accepted\n",
+    },
+    Row {
+        name: "a header without the variable",
+        words: GO,
+        files: &[("s.m", SCRIPT), ("a.csv", "y\nz\n")],
+        status: Status::Fault,
+        text: "",
+        line: "tallrun: line 3: undefined x\n",
+    },
+    Row {
+        name: "a record of too many fields, and a bad field behind it",
+        words: GO,
+        files: &[("s.m", SCRIPT), ("a.csv", "x\n1\n1,2\nz\n")],
+        status: Status::Fault,
+        text: "",
+        line: "tallrun: line 1: row 2: too many fields\n",
+    },
+    Row {
         name: "a field that spells no number",
         words: GO,
         files: &[("s.m", SCRIPT), ("a.csv", "x\n1\n5.\n\"\"\n")],
@@ -169,16 +210,6 @@ const REFUSALS: &[Row] = &[
         text: "",
         line: "tallrun: line 1: row 2: variable x: not a number\n",
     },
-];
-
-/// Data that doesn't run today.
-const OTHER_DATA: &[&str] = &[
-    "",
-    "x,y\n1,2\n",
-    "y\n1\n",
-    "x\n\"\"\n",
-    "x\n1\n \t\n",
-    "x\n1,2\n",
 ];
 
 #[test]
@@ -208,19 +239,6 @@ fn over_data<R: Threads + Sync + Abort>(
 ) -> Result<Status, Fail> {
     let mut shelf = shelf_of(rt, alloc, &[("s.m", script), ("a.csv", data)])?;
     ending(rt, alloc, GO, &mut shelf, out, err)
-}
-
-#[test]
-fn other_data_is_not_built(rt: HostRuntime) -> Result<(), Fail> {
-    for data in OTHER_DATA {
-        let mut out = MemSink::new(rt.alloc());
-        let mut err = MemSink::new(rt.alloc());
-        let status = over_data(&rt, rt.alloc(), SCRIPT, data, &mut out, &mut err)?;
-        assert_eq!(rt; status, Status::Fault, "{data:?}");
-        assert_eq!(rt; err.bytes(), NOT_BUILT.as_bytes(), "{data:?}");
-        assert_eq!(rt; out.bytes(), b"".as_slice());
-    }
-    Ok(())
 }
 
 #[test]
@@ -272,6 +290,7 @@ fn a_failing_call_has_its_line(rt: HostRuntime) -> Result<(), Fail> {
             cannot_read_script,
         ),
         (Failing::Open(2), "x\n1\n", Status::Read, "", cannot_read),
+        (Failing::Open(3), "x\n1\n", Status::Read, "", cannot_read),
         (Failing::Read(3), "x\n1\n", Status::Read, "", cannot_read),
         (
             Failing::WriteOut,
