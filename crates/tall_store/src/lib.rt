@@ -1,6 +1,8 @@
 //! Datastores: options, the names and formats of variables, and blocks of records as columns.
 #![tactic(auto)]
 
+#[cfg(test)]
+mod cases;
 mod choices;
 mod columns;
 mod faults;
