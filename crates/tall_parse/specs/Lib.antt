@@ -1,13 +1,1 @@
-pub mod ExprReader
-pub mod Grammar
-pub mod GrammarRows
-pub mod Kept
-pub mod Lexemes
-pub mod Readers
-pub mod RefusalRows
-pub mod Refusals
-pub mod ScriptReader
-pub mod Trees
-pub mod Verdicts
-pub mod Views
-pub mod VerdictRows
+pub mod StepViews

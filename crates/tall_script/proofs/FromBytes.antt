@@ -9,10 +9,10 @@ use Rattle.tall_lex.specs.Numbers.{is_whole_number}
 use Rattle.tall_lex.specs.Pieces.{piece_at, name_piece, number_piece, number_len, fraction_len, exponent_len, text_piece, comment_piece, joined_piece, sign_piece}
 use Rattle.tall_lex.specs.Tokens.{tokens_from, tokens_of_bytes}
 use Rattle.tall_lex.specs.declared.tokens.TokenKind.TheVariants.{LineEnd}
-use Rattle.tall_parse.specs.Lexemes.{Lexeme, sign}
-use Rattle.tall_parse.specs.Trees.{Program}
-use Rattle.tall_parse.specs.Grammar.{a_script, no_functions, no_statements, next_statement, name_body, one_conj, one_cmp, one_sum, one_prod, one_pre, one_post, one_primary, member_of, call_of, a_text, a_name, a_list, in_braces, some_listed, no_more_texts, with_args, last_value, next_value}
-use Rattle.tall_parse.specs.Refusals.{Parses, has_tokens, is_script, read}
+use Rattle.tall_grammar.specs.Lexemes.{Lexeme, sign}
+use Rattle.tall_grammar.specs.Trees.{Program}
+use Rattle.tall_grammar.specs.Grammar.{a_script, no_functions, no_statements, next_statement, name_body, one_conj, one_cmp, one_sum, one_prod, one_pre, one_post, one_primary, member_of, call_of, a_text, a_name, a_list, in_braces, some_listed, no_more_texts, with_args, last_value, next_value}
+use Rattle.tall_grammar.specs.Refusals.{Parses, has_tokens, is_script, read}
 use Rattle.tall_script.specs.Answers.{Answers, of_script}
 use Rattle.tall_script.specs.Drafts.{script, shown, silent, sets, call, member, name, text, texts}
 use Rattle.tall_script.specs.FirstRun.{first_files, first_script_bytes}

@@ -3,7 +3,7 @@ use Rattle.std.proofs.Common.{◌≤◌, List, Bool, true, false, refl, ◌∙�
 use Rattle.std.specs.Prelude.{if◌then◌else◌, slice_get, Option, None, Some, Result, Ok, Err}
 use Rattle.tall_value.specs.Cells.{Seen}
 use Rattle.tall_semantics.specs.Faults.{At}
-use Rattle.tall_parse.specs.Trees.{Tree}
+use Rattle.tall_grammar.specs.Trees.{Tree}
 use Rattle.tall_script.specs.Expressions.{Valued, answered, value}
 use Rattle.tall_script.specs.Functions.{of_values, tabular_text_datastore, tall, gather, mapreduce, readall, hasnext, getnext, add}
 use Rattle.tall_script.specs.Locals.{Held, Locals, function_language, held_call, is_only_iterator, next_value}

@@ -1,14 +1,14 @@
 -- The grammar's scripts are numbered as Numbering says.
 use Rattle.std.proofs.Common.{◌≡◌, ℕ, suc, List, [], ◌∷◌, ◌++◌, Bool, true, refl, ap, sym, ◌∙◌, subst}
 use Rattle.std.proofs.lemmas.List.{append-nil}
-use Rattle.tall_parse.specs.declared.expressions.Prefix.{Prefix}
-use Rattle.tall_parse.specs.declared.expressions.Infix.{Infix}
-use Rattle.tall_parse.specs.Grammar.{IsExpr, IsConj, IsCmp, IsSum, IsProd, IsPre, IsPost, IsPrimary, IsList, AreTexts, AreListed, AreArgs, AreSomeArgs, IsBody, AreStatements, IsStep, AreSteps, IsArm, AreArms, AreFunctions, IsScript}
-use Rattle.tall_parse.specs.Grammar as g
-use Rattle.tall_parse.specs.Lexemes.{Lexeme}
-use Rattle.tall_parse.specs.Refusals.{line_of}
-use Rattle.tall_parse.specs.Trees.{Tree, tree, Trees, no_trees, and_tree, Args, no_args, value_arg, colon_arg, Step, assign_step, add_step, if_step, while_step, for_step, Steps, no_steps, and_step, Arms, no_arms, and_arm, Body, assigned, gathered, property, bare, Entry, Routine, Program}
-use Rattle.tall_parse.specs.Trees as trees
+use Rattle.tall_grammar.specs.declared.expressions.Prefix.{Prefix}
+use Rattle.tall_grammar.specs.declared.expressions.Infix.{Infix}
+use Rattle.tall_grammar.specs.Grammar.{IsExpr, IsConj, IsCmp, IsSum, IsProd, IsPre, IsPost, IsPrimary, IsList, AreTexts, AreListed, AreArgs, AreSomeArgs, IsBody, AreStatements, IsStep, AreSteps, IsArm, AreArms, AreFunctions, IsScript}
+use Rattle.tall_grammar.specs.Grammar as g
+use Rattle.tall_grammar.specs.Lexemes.{Lexeme}
+use Rattle.tall_grammar.specs.Refusals.{line_of}
+use Rattle.tall_grammar.specs.Trees.{Tree, tree, Trees, no_trees, and_tree, Args, no_args, value_arg, colon_arg, Step, assign_step, add_step, if_step, while_step, for_step, Steps, no_steps, and_step, Arms, no_arms, and_arm, Body, assigned, gathered, property, bare, Entry, Routine, Program}
+use Rattle.tall_grammar.specs.Trees as trees
 use Rattle.tall_script.specs.Numbering.{after_parts, numbered, numbered_trees, numbered_args, numbered_body, numbered_step, numbered_steps, numbered_arms, numbered_entries, numbered_routines, numbered_program}
 
 -- ---- wholes from their parts

@@ -3,7 +3,7 @@ use Rattle.std.proofs.Common.{◌≡◌, ℕ, List, [], ◌∷◌, ◌++◌, ref
 use Rattle.std.proofs.lemmas.List.{append-nil, append_assoc}
 use Rattle.std.specs.Prelude.{Option, None, Some}
 use Rattle.tall_semantics.specs.Talls.{Tall}
-use Rattle.tall_parse.specs.Trees.{Entry}
+use Rattle.tall_grammar.specs.Trees.{Entry}
 use Rattle.tall_script.specs.Refusals.{Stop}
 use Rattle.tall_script.specs.RunLaws.{at_the_end, one_more, IsRunOf, all_ran, one_failed, BeginsWith, continued}
 use Rattle.tall_script.specs.Runs.{Run, behind, next, run_from}

@@ -2,8 +2,8 @@
 use Rattle.std.proofs.Common.{ℕ, List, Bool, true, false}
 use Rattle.std.specs.Prelude.{if◌then◌else◌, Option, None, Some, Result, Ok, Err}
 use Rattle.tall_semantics.specs.Faults.{At}
-use Rattle.tall_parse.specs.Trees.{Tree, tree, Args, no_args, value_arg, colon_arg}
-use Rattle.tall_parse.specs.Trees as trees
+use Rattle.tall_grammar.specs.Trees.{Tree, tree, Args, no_args, value_arg, colon_arg}
+use Rattle.tall_grammar.specs.Trees as trees
 use Rattle.tall_script.specs.Arguments.{Argument, given}
 use Rattle.tall_script.specs.Expressions.{Language, Valued, gives, stops, place, go_on, answered, Callee, a_function, no_function, a_value, callee, handle_in, called, argument, value, arguments}
 use Rattle.tall_script.specs.Refusals.{Refusal}

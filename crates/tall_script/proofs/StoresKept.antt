@@ -10,8 +10,8 @@ use Rattle.tall_store.specs.declared.faults.StoreFault.{StoreFault}
 use Rattle.tall_store.specs.Opening.{opening}
 use Rattle.tall_store.specs.Options.{SeenOptions}
 use Rattle.tall_store.specs.Stores.{SeenStore}
-use Rattle.tall_parse.specs.Trees.{Args, Body, assigned, gathered, property, bare, Entry, Routine, Tree, tree}
-use Rattle.tall_parse.specs.Trees as trees
+use Rattle.tall_grammar.specs.Trees.{Args, Body, assigned, gathered, property, bare, Entry, Routine, Tree, tree}
+use Rattle.tall_grammar.specs.Trees as trees
 use Rattle.tall_script.specs.Arguments.{Argument}
 use Rattle.tall_script.specs.Datastores.{datastore_call, options_in, first_opening, made_store, store_with}
 use Rattle.tall_script.specs.Expressions.{Valued, gives, stops, answered, arguments}

@@ -3,7 +3,7 @@
 use Rattle.std.specs.Prelude.{ℕ, ◌+◌, ◌≡◌, if◌then◌else◌, List, None, Some}
 use Rattle.std.specs.Str.{bytes_eq}
 use Rattle.tall_outside.specs.Shelf.{Files, file_in}
-use Rattle.tall_parse.specs.Refusals as parse
+use Rattle.tall_grammar.specs.Refusals as parse
 use Rattle.tall_script.specs.Runs.{openings}
 
 -- the script itself is opened once

@@ -2,7 +2,7 @@
 use Rattle.std.specs.Prelude.{ℕ, List, [], ◌++◌, ◌≡◌, Option, None, Some, codes}
 use Rattle.std.specs.Fmt.{decimal}
 use Rattle.tall_outside.specs.Shelf.{Files, file_in}
-use Rattle.tall_parse.specs.Refusals as parse
+use Rattle.tall_grammar.specs.Refusals as parse
 use Rattle.tall_script.specs.Refusals.{Stop}
 use Rattle.tall_script.specs.FaultLines.{fault_line, on_line, stop_line}
 use Rattle.tall_script.specs.Runs.{run}

@@ -6,9 +6,9 @@ use Rattle.tall_value.specs.declared.class.Kind.TheVariants.{Logical}
 use Rattle.tall_value.specs.Cells.{Seen, double, seen_kind}
 use Rattle.tall_value.specs.ClassTables.{of_number}
 use Rattle.tall_value.specs.CellOperators.{truth}
-use Rattle.tall_parse.specs.Trees.{Tree, tree, Args, no_args, value_arg, Step, assign_step, add_step, if_step, while_step, for_step, Steps, no_steps, and_step, Arms, no_arms, and_arm, Routine}
-use Rattle.tall_parse.specs.Trees as trees
-use Rattle.tall_parse.specs.Refusals.{line_of}
+use Rattle.tall_grammar.specs.Trees.{Tree, tree, Args, no_args, value_arg, Step, assign_step, add_step, if_step, while_step, for_step, Steps, no_steps, and_step, Arms, no_arms, and_arm, Routine}
+use Rattle.tall_grammar.specs.Trees as trees
+use Rattle.tall_grammar.specs.Refusals.{line_of}
 use Rattle.tall_script.specs.Names.{named}
 use Rattle.tall_script.specs.Refusals.{Refusal, bad_class, bad_size, bad_argument, bad_index, no_progress, too_many_turns, refused_cell, Stop, stop_at}
 use Rattle.tall_script.specs.Memory.{scalar, column, kind_of_column}

@@ -2,10 +2,10 @@
 -- them.
 use Prim.Native.String.{String}
 use Rattle.std.specs.Prelude.{ℕ, pos, true, false, List, [], ◌∷◌, Option, Some, codes}
-use Rattle.tall_parse.specs.declared.expressions.Prefix.TheVariants.{Minus, Not}
-use Rattle.tall_parse.specs.declared.expressions.Infix.{Infix}
-use Rattle.tall_parse.specs.Trees.{Tree, tree, Shape, Trees, no_trees, and_tree, Args, no_args, value_arg, colon_arg, Step, assign_step, add_step, if_step, while_step, for_step, Steps, no_steps, and_step, Arms, no_arms, and_arm, Body, assigned, gathered, property, bare, Entry, Routine, Program}
-use Rattle.tall_parse.specs.Trees as trees
+use Rattle.tall_grammar.specs.declared.expressions.Prefix.TheVariants.{Minus, Not}
+use Rattle.tall_grammar.specs.declared.expressions.Infix.{Infix}
+use Rattle.tall_grammar.specs.Trees.{Tree, tree, Shape, Trees, no_trees, and_tree, Args, no_args, value_arg, colon_arg, Step, assign_step, add_step, if_step, while_step, for_step, Steps, no_steps, and_step, Arms, no_arms, and_arm, Body, assigned, gathered, property, bare, Entry, Routine, Program}
+use Rattle.tall_grammar.specs.Trees as trees
 use Rattle.tall_script.specs.Numbering.{numbered_program}
 
 -- ---- expressions without number and line

@@ -3,10 +3,10 @@
 use Rattle.std.specs.Prelude.{ℕ, Bool, true, false, if◌then◌else◌, ◌∷◌, [], List, Option, None, Some, Result, Ok, Err}
 use Rattle.tall_value.specs.Cells.{double, text}
 use Rattle.tall_semantics.specs.Faults.{At}
-use Rattle.tall_parse.specs.declared.expressions.Prefix.{Prefix}
-use Rattle.tall_parse.specs.declared.expressions.Infix.{Infix}
-use Rattle.tall_parse.specs.Trees.{Tree, tree, Shape, Trees, no_trees, and_tree, Args, no_args, value_arg, colon_arg}
-use Rattle.tall_parse.specs.Trees as trees
+use Rattle.tall_grammar.specs.declared.expressions.Prefix.{Prefix}
+use Rattle.tall_grammar.specs.declared.expressions.Infix.{Infix}
+use Rattle.tall_grammar.specs.Trees.{Tree, tree, Shape, Trees, no_trees, and_tree, Args, no_args, value_arg, colon_arg}
+use Rattle.tall_grammar.specs.Trees as trees
 use Rattle.tall_script.specs.Arguments.{Argument, colon, function, given}
 use Rattle.tall_script.specs.Refusals.{Refusal, undefined, Stop, stop_at}
 use Rattle.tall_script.specs.Memory.{Memory, scalar, texts}

@@ -2,7 +2,7 @@
 use Rattle.std.specs.Prelude.{◌≡◌, [], ◌∷◌, codes, refl, None, Some}
 use Rattle.tall_value.specs.declared.faults.FaultKind.TheVariants.{Inexact, NotWhole, NanLogical, NoRows}
 use Rattle.tall_script.specs.Answers.{answer_of}
-use Rattle.tall_parse.specs.Refusals as parse
+use Rattle.tall_grammar.specs.Refusals as parse
 use Rattle.tall_script.specs.Answers.{Answers, no_script}
 use Rattle.tall_script.specs.FaultLines.{stop_line}
 use Rattle.tall_script.specs.Refusals.{stop_at, undefined, mixed_class, bad_class, incompatible, bad_size, bad_argument, bad_index, failed, no_file, no_header, header_differs, too_many_rows, too_many_fields, bad_field, bad_text, field_not_whole, field_inexact, no_value_left, no_progress, too_many_turns, bad_key, bad_value}

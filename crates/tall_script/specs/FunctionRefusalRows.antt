@@ -1,7 +1,7 @@
 -- What ends a run at functions over tall values, by computation.
 use Rattle.std.specs.Prelude.{◌≡◌, [], ◌∷◌, ◌++◌, codes, refl, None, Some}
 use Rattle.tall_value.specs.declared.faults.FaultKind.TheVariants.{Inexact, NanLogical, NoRows}
-use Rattle.tall_parse.specs.declared.expressions.Infix.TheVariants.{Gt, Add, DotMul}
+use Rattle.tall_grammar.specs.declared.expressions.Infix.TheVariants.{Gt, Add, DotMul}
 use Rattle.tall_script.specs.Refusals.{undefined, bad_class, incompatible, bad_argument, failed}
 use Rattle.tall_script.specs.RowWords.{whole_runs, over, two_rows, usual, ending_of, at_line}
 use Rattle.tall_script.specs.Drafts.{number, text, name, infix_of, member, call, index, silent, sets, gathers, sets_property, script}

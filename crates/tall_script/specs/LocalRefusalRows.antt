@@ -1,8 +1,8 @@
 -- What ends a call of a map function, by computation.
 use Rattle.std.specs.Prelude.{◌≡◌, [], ◌∷◌, codes, refl, None, Some}
 use Rattle.tall_value.specs.declared.faults.FaultKind.TheVariants.{Inexact, NotWhole, NoRows}
-use Rattle.tall_parse.specs.Trees.{assign_step, add_step}
-use Rattle.tall_parse.specs.declared.expressions.Infix.TheVariants.{Gt, Add, Sub, DotDiv, Mul}
+use Rattle.tall_grammar.specs.Trees.{assign_step, add_step}
+use Rattle.tall_grammar.specs.declared.expressions.Infix.TheVariants.{Gt, Add, Sub, DotDiv, Mul}
 use Rattle.tall_script.specs.Refusals.{undefined, mixed_class, bad_class, bad_size, bad_argument, bad_index, failed, bad_key, bad_value}
 use Rattle.tall_script.specs.RowWords.{whole_runs, map_stop, at_line}
 use Rattle.tall_script.specs.Drafts.{number, text, name, handle, minus, infix_of, member, call, index}

@@ -2,7 +2,7 @@
 -- docs/LANGUAGE.md, mapreduce.
 use Rattle.std.specs.Prelude.{ℕ, ◌+◌, nat_lt, Bool, true, false, if◌then◌else◌, length, slice_get, List, [], ◌∷◌, Option, None, Some, Result, Ok, Err}
 use Rattle.tall_value.specs.Cells.{Seen, logical}
-use Rattle.tall_parse.specs.declared.expressions.Infix.{Infix}
+use Rattle.tall_grammar.specs.declared.expressions.Infix.{Infix}
 use Rattle.tall_semantics.specs.Faults.{At}
 use Rattle.tall_script.specs.Arguments.{Argument, colon, given}
 use Rattle.tall_script.specs.Names.{named, put_name}

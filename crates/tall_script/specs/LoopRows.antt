@@ -1,8 +1,8 @@
 -- Conditions, loops, iterators and pairs in functions, by computation.
 use Rattle.std.specs.Prelude.{pos, ◌≡◌, [], ◌∷◌, codes, refl, true, false, None, Some}
 use Rattle.tall_value.specs.declared.faults.FaultKind.TheVariants.{Inexact, NanLogical}
-use Rattle.tall_parse.specs.Trees.{while_step, assign_step, add_step, for_step, if_step, and_arm, no_arms}
-use Rattle.tall_parse.specs.declared.expressions.Infix.TheVariants.{And, Eq, Gt, Add, Sub, DotDiv}
+use Rattle.tall_grammar.specs.Trees.{while_step, assign_step, add_step, for_step, if_step, and_arm, no_arms}
+use Rattle.tall_grammar.specs.declared.expressions.Infix.TheVariants.{And, Eq, Gt, Add, Sub, DotDiv}
 use Rattle.tall_script.specs.Calls.{ends, breaks, begin_turn, while_turns, turn_limit}
 use Rattle.tall_script.specs.Expressions.{gives}
 use Rattle.tall_script.specs.Locals.{value}

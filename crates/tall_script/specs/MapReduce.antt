@@ -4,7 +4,7 @@ use Rattle.std.specs.Prelude.{ℕ, ◌+◌, length, List, [], ◌∷◌, ◌++�
 use Rattle.tall_value.specs.Cells.{Seen}
 use Rattle.tall_column.specs.Columns.{SeenColumn}
 use Rattle.tall_outside.specs.Shelf.{Files, file_in}
-use Rattle.tall_parse.specs.Trees.{Routine}
+use Rattle.tall_grammar.specs.Trees.{Routine}
 use Rattle.tall_store.specs.declared.faults.ReadingFault.{ReadingFault}
 use Rattle.tall_store.specs.Blocks.{block_table, in_blocks, numbered_blocks}
 use Rattle.tall_store.specs.Records.{data_in}

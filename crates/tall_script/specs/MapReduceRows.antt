@@ -1,8 +1,8 @@
 -- Runs with mapreduce, by computation.
 use Rattle.std.specs.Prelude.{◌≡◌, [], ◌∷◌, codes, refl, None}
-use Rattle.tall_parse.specs.Trees.{while_step, assign_step, add_step}
-use Rattle.tall_parse.specs.declared.expressions.Infix.TheVariants.{Add}
-use Rattle.tall_parse.specs.Refusals.{read}
+use Rattle.tall_grammar.specs.Trees.{while_step, assign_step, add_step}
+use Rattle.tall_grammar.specs.declared.expressions.Infix.TheVariants.{Add}
+use Rattle.tall_grammar.specs.Refusals.{read}
 use Rattle.tall_script.specs.Answers.{answer_of}
 use Rattle.tall_script.specs.RowWords.{whole_runs, over, prints, fails}
 use Rattle.tall_script.specs.Drafts.{number, text, name, handle, infix_of, member, texts, call, shown, silent, sets, steps, routine, parameter, script_with}

@@ -15,10 +15,10 @@ use Rattle.tall_value.specs.CellOperators.{unary_cell, binary_cell}
 use Rattle.tall_value.specs.Columns.{numbered, cells}
 use Rattle.tall_value.specs.Elementwise.{unary_rows, binary_rows, scalar_rows}
 use Rattle.tall_column.specs.Columns.{SeenColumn}
-use Rattle.tall_parse.specs.declared.expressions.Prefix.{Prefix}
-use Rattle.tall_parse.specs.declared.expressions.Prefix.TheVariants as before
-use Rattle.tall_parse.specs.declared.expressions.Infix.{Infix}
-use Rattle.tall_parse.specs.declared.expressions.Infix.TheVariants as between
+use Rattle.tall_grammar.specs.declared.expressions.Prefix.{Prefix}
+use Rattle.tall_grammar.specs.declared.expressions.Prefix.TheVariants as before
+use Rattle.tall_grammar.specs.declared.expressions.Infix.{Infix}
+use Rattle.tall_grammar.specs.declared.expressions.Infix.TheVariants as between
 use Rattle.tall_script.specs.Refusals.{Refusal, bad_class, bad_size, bad_argument, refused_class, refused_cell}
 use Rattle.tall_script.specs.Memory.{Memory, scalar, column, table, texts, kind_of_column, is_scalar}
 

@@ -1,7 +1,7 @@
 -- What ends a run at names, operators and indexes over values in memory, by computation.
 use Rattle.std.specs.Prelude.{◌≡◌, [], ◌∷◌, codes, refl, None}
 use Rattle.tall_value.specs.declared.faults.FaultKind.TheVariants.{Inexact, NotWhole, NanLogical}
-use Rattle.tall_parse.specs.declared.expressions.Infix.TheVariants.{And, Eq, Add, DotDiv, Mul, Div}
+use Rattle.tall_grammar.specs.declared.expressions.Infix.TheVariants.{And, Eq, Add, DotDiv, Mul, Div}
 use Rattle.tall_script.specs.Refusals.{undefined, mixed_class, bad_class, bad_argument, failed}
 use Rattle.tall_script.specs.RowWords.{whole_runs, ending_of, at_line}
 use Rattle.tall_script.specs.Drafts.{number, text, name, handle, minus, negated, infix_of, member, texts, call, rows_of, silent, sets, routine, parameter, script, script_with}

@@ -1,9 +1,9 @@
 -- The numbers of a script's expressions: the parts in their order, and then the whole. What is numbered stands on a line,
 -- from a number on; the number that comes next is given too.
 use Rattle.std.specs.Prelude.{ℕ, suc, List, [], ◌∷◌}
-use Rattle.tall_parse.specs.Trees.{Tree, tree, Shape, Trees, no_trees, and_tree, Args, no_args, value_arg, colon_arg, Step, assign_step, add_step, if_step, while_step, for_step, Steps, no_steps, and_step, Arms, no_arms, and_arm, Body, assigned, gathered, property, bare, Entry, Routine, Program}
-use Rattle.tall_parse.specs.Trees as trees
-use Rattle.tall_parse.specs.Refusals.{line_of}
+use Rattle.tall_grammar.specs.Trees.{Tree, tree, Shape, Trees, no_trees, and_tree, Args, no_args, value_arg, colon_arg, Step, assign_step, add_step, if_step, while_step, for_step, Steps, no_steps, and_step, Arms, no_arms, and_arm, Body, assigned, gathered, property, bare, Entry, Routine, Program}
+use Rattle.tall_grammar.specs.Trees as trees
+use Rattle.tall_grammar.specs.Refusals.{line_of}
 
 -- ---- expressions
 

@@ -1,7 +1,7 @@
 -- How often a run may open a file, by computation.
 use Rattle.std.specs.Prelude.{◌≡◌, [], ◌∷◌, ◌++◌, codes, refl}
-use Rattle.tall_parse.specs.declared.expressions.Infix.TheVariants.{Add, Sub, DotDiv}
-use Rattle.tall_parse.specs.Refusals.{read, syntax_at}
+use Rattle.tall_grammar.specs.declared.expressions.Infix.TheVariants.{Add, Sub, DotDiv}
+use Rattle.tall_grammar.specs.Refusals.{read, syntax_at}
 use Rattle.tall_script.specs.AllowedOpenings.{allowed_of}
 use Rattle.tall_script.specs.Runs.{openings}
 use Rattle.tall_script.specs.RowWords.{whole_runs, over, usual}

@@ -1,7 +1,7 @@
 -- Runs that read: each reading fault with a file that gives it, and options that change what is read, by computation.
 use Rattle.std.specs.Prelude.{◌≡◌, [], ◌∷◌, ◌++◌, codes, refl}
-use Rattle.tall_parse.specs.declared.expressions.Infix.TheVariants.{DotDiv}
-use Rattle.tall_parse.specs.Refusals.{read}
+use Rattle.tall_grammar.specs.declared.expressions.Infix.TheVariants.{DotDiv}
+use Rattle.tall_grammar.specs.Refusals.{read}
 use Rattle.tall_script.specs.Answers.{answer_of}
 use Rattle.tall_script.specs.RowWords.{whole_runs, over, usual, prints, fails}
 use Rattle.tall_script.specs.Drafts.{number, text, name, infix_of, member, texts, call, shown, silent, sets, gathers, sets_property, script}

@@ -7,7 +7,7 @@ use Rattle.tall_value.specs.Cells.{whole, double}
 use Rattle.tall_value.specs.Cells as cell
 use Rattle.tall_column.specs.Columns.{SeenColumn}
 use Rattle.tall_outside.specs.Shelf.{Files}
-use Rattle.tall_parse.specs.Trees.{Entry, Program, Step}
+use Rattle.tall_grammar.specs.Trees.{Entry, Program, Step}
 use Rattle.csv.proofs.OnLiterals.{csv_on_literals}
 use Rattle.std.proofs.Math.Utf8.{encode}
 use Rattle.std.specs.Fmt.{digits}

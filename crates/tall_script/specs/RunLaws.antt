@@ -3,7 +3,7 @@
 use Rattle.std.specs.Prelude.{◌≡◌, ℕ, List, [], ◌∷◌, ◌++◌, None, Some}
 use Rattle.std.specs.List.{concat}
 use Rattle.tall_semantics.specs.Talls.{Tall}
-use Rattle.tall_parse.specs.Trees.{Entry}
+use Rattle.tall_grammar.specs.Trees.{Entry}
 use Rattle.tall_script.specs.Refusals.{Stop}
 use Rattle.tall_script.specs.Runs.{Run, behind, run_from}
 use Rattle.tall_script.specs.ScriptLanguage.{Setting}

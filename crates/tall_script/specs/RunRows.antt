@@ -1,7 +1,7 @@
 -- Whole runs over a column or two, from files and statements to text and line, by computation.
 use Rattle.std.specs.Prelude.{◌≡◌, [], ◌∷◌, ◌++◌, codes, refl}
-use Rattle.tall_parse.specs.declared.expressions.Infix.TheVariants.{Gt, Add, Sub, DotDiv}
-use Rattle.tall_parse.specs.Refusals.{read}
+use Rattle.tall_grammar.specs.declared.expressions.Infix.TheVariants.{Gt, Add, Sub, DotDiv}
+use Rattle.tall_grammar.specs.Refusals.{read}
 use Rattle.tall_script.specs.Answers.{answer_of}
 use Rattle.tall_script.specs.RowWords.{whole_runs, over, usual, prints, fails, prints_and_fails}
 use Rattle.tall_script.specs.Drafts.{number, text, name, minus, infix_of, member, texts, call, index, shown, silent, sets, gathers, script}

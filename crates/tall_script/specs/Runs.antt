@@ -2,7 +2,7 @@
 use Rattle.std.specs.Prelude.{ℕ, List, [], ◌∷◌, ◌++◌, Option, None, Some}
 use Rattle.tall_semantics.specs.Talls.{Tall}
 use Rattle.tall_outside.specs.Shelf.{Files}
-use Rattle.tall_parse.specs.Trees.{Entry, Program}
+use Rattle.tall_grammar.specs.Trees.{Entry, Program}
 use Rattle.tall_script.specs.Refusals.{Stop}
 use Rattle.tall_script.specs.ScriptLanguage.{Setting}
 use Rattle.tall_script.specs.Statements.{Done, shows, fails, statement}

@@ -6,7 +6,7 @@ use Rattle.std.specs.Str.{bytes_eq}
 use Rattle.tall_semantics.specs.Faults.{At}
 use Rattle.tall_semantics.specs.Talls.{Tall}
 use Rattle.tall_outside.specs.Shelf.{Files}
-use Rattle.tall_parse.specs.Trees.{Tree, Routine}
+use Rattle.tall_grammar.specs.Trees.{Tree, Routine}
 use Rattle.tall_script.specs.Arguments.{Argument, function, given, value_given}
 use Rattle.tall_script.specs.Lists.{all_of}
 use Rattle.tall_script.specs.Names.{named}

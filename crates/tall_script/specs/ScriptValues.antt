@@ -12,8 +12,8 @@ use Rattle.tall_value.specs.declared.operators.Binary.{Binary}
 use Rattle.tall_value.specs.declared.operators.Unary.{Unary}
 use Rattle.tall_value.specs.Cells.{Seen}
 use Rattle.tall_value.specs.ClassTables.{binary_class}
-use Rattle.tall_parse.specs.declared.expressions.Prefix.{Prefix}
-use Rattle.tall_parse.specs.declared.expressions.Infix.{Infix}
+use Rattle.tall_grammar.specs.declared.expressions.Prefix.{Prefix}
+use Rattle.tall_grammar.specs.declared.expressions.Infix.{Infix}
 use Rattle.tall_semantics.specs.Faults.{At}
 use Rattle.tall_semantics.specs.Operations.{Op, Part, keys, counts, values}
 use Rattle.tall_semantics.specs.Operations as op

@@ -1,8 +1,8 @@
 -- Statements: the text that a statement shows and the state that it leaves, or the fault that ends the run.
 -- docs/LANGUAGE.md, grammar.
 use Rattle.std.specs.Prelude.{ℕ, Bool, false, if◌then◌else◌, ◌==◌, length, slice_get, List, [], ◌∷◌, ◌++◌, Option, None, Some, Result, Ok, Err, codes}
-use Rattle.tall_parse.specs.Trees.{Tree, tree, Args, Body, assigned, gathered, property, bare, Entry}
-use Rattle.tall_parse.specs.Trees as trees
+use Rattle.tall_grammar.specs.Trees.{Tree, tree, Args, Body, assigned, gathered, property, bare, Entry}
+use Rattle.tall_grammar.specs.Trees as trees
 use Rattle.tall_semantics.specs.Talls.{Tall}
 use Rattle.tall_script.specs.Arguments.{value_given}
 use Rattle.tall_script.specs.Lists.{all_of}

@@ -5,7 +5,7 @@ use Rattle.std.specs.List.{list_all}
 use Rattle.tall_value.specs.Cells.{logical, double}
 use Rattle.tall_cut.specs.declared.cutter.ReadSize.{ReadSize}
 use Rattle.tall_cut.specs.declared.cutter.ReadSize.TheVariants.{Rows, File}
-use Rattle.tall_parse.specs.Grammar.{are_distinct}
+use Rattle.tall_grammar.specs.Grammar.{are_distinct}
 use Rattle.tall_store.specs.declared.format.Format.{Format}
 use Rattle.tall_store.specs.declared.format.Format.TheVariants.{Int8, Int16, Int32, Int64, Uint8, Uint16, Uint32, Uint64, Double, Text}
 use Rattle.tall_store.specs.Options.{SeenOptions}

@@ -1,8 +1,8 @@
 -- Whole runs over tables, and shown values of every kind, by computation.
 use Rattle.std.specs.Prelude.{◌≡◌, [], ◌∷◌, ◌++◌, codes, refl}
-use Rattle.tall_parse.specs.Trees.{bare}
-use Rattle.tall_parse.specs.declared.expressions.Infix.TheVariants.{Gt, Add}
-use Rattle.tall_parse.specs.Refusals.{read}
+use Rattle.tall_grammar.specs.Trees.{bare}
+use Rattle.tall_grammar.specs.declared.expressions.Infix.TheVariants.{Gt, Add}
+use Rattle.tall_grammar.specs.Refusals.{read}
 use Rattle.tall_script.specs.Answers.{answer_of}
 use Rattle.tall_script.specs.RowWords.{whole_runs, over, usual, prints, fails}
 use Rattle.tall_script.specs.Drafts.{number, text, name, infix_of, member, texts, call, rows_of, index, shown, silent, sets, gathers, sets_property, script}

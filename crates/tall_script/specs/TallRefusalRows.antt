@@ -1,7 +1,7 @@
 -- What ends a run at operators and indexes over tall values, and over columns in memory, by computation.
 use Rattle.std.specs.Prelude.{◌≡◌, [], ◌∷◌, ◌++◌, codes, refl, Some}
 use Rattle.tall_value.specs.declared.faults.FaultKind.TheVariants.{Inexact}
-use Rattle.tall_parse.specs.declared.expressions.Infix.TheVariants.{Eq, Gt, Add, Sub, DotDiv, Mul, Div}
+use Rattle.tall_grammar.specs.declared.expressions.Infix.TheVariants.{Eq, Gt, Add, Sub, DotDiv, Mul, Div}
 use Rattle.tall_script.specs.Refusals.{undefined, mixed_class, bad_class, incompatible, bad_size, bad_argument, bad_index, failed}
 use Rattle.tall_script.specs.RowWords.{whole_runs, two_rows, usual, ending_of, at_line}
 use Rattle.tall_script.specs.Drafts.{number, name, minus, infix_of, member, call, rows_of, index, silent, sets, script}

@@ -1,8 +1,8 @@
 -- Runs over values in memory and over tall values that end well, by computation.
 use Rattle.std.specs.Prelude.{◌≡◌, [], ◌∷◌, ◌++◌, codes, refl}
-use Rattle.tall_parse.specs.Trees.{bare}
-use Rattle.tall_parse.specs.declared.expressions.Infix.TheVariants.{And, Eq, Gt, Add, Sub, DotMul, Mul, Div}
-use Rattle.tall_parse.specs.Refusals.{read}
+use Rattle.tall_grammar.specs.Trees.{bare}
+use Rattle.tall_grammar.specs.declared.expressions.Infix.TheVariants.{And, Eq, Gt, Add, Sub, DotMul, Mul, Div}
+use Rattle.tall_grammar.specs.Refusals.{read}
 use Rattle.tall_script.specs.Answers.{answer_of}
 use Rattle.tall_script.specs.RowWords.{whole_runs, over, usual, prints}
 use Rattle.tall_script.specs.Drafts.{number, text, name, minus, negated, infix_of, member, call, rows_of, shown, silent, sets, gathers, script}

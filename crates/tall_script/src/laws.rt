@@ -1,8 +1,8 @@
 //! Laws of the definitions, each the contract of a function without a body.
 ghost use Rattle.std.specs.Prelude.{◌≡◌, ◌++◌, ℕ, List, codes};
-ghost use Rattle.tall_parse.specs.Grammar.{IsExpr, IsScript};
-ghost use Rattle.tall_parse.specs.Lexemes.{Lexeme};
-ghost use Rattle.tall_parse.specs.Trees.{Entry, Program, Tree};
+ghost use Rattle.tall_grammar.specs.Grammar.{IsExpr, IsScript};
+ghost use Rattle.tall_grammar.specs.Lexemes.{Lexeme};
+ghost use Rattle.tall_grammar.specs.Trees.{Entry, Program, Tree};
 ghost use Rattle.tall_script.specs.Answers.{Answers};
 ghost use Rattle.tall_script.specs.Expressions.{value};
 ghost use Rattle.tall_script.specs.FirstRun.{first_files};

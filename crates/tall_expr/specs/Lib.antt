@@ -1,0 +1,4 @@
+pub mod Cursor
+pub mod Nests
+pub mod Reads
+pub mod ReaderParts

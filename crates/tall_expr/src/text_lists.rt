@@ -1,0 +1,95 @@
+//! Lists of texts.
+ghost use Rattle.std.specs.Prelude.{◌≡◌, map, codes};
+ghost use Rattle.tall_grammar.specs.ExprReader as spec;
+ghost use Rattle.tall_grammar.specs.Readers.{front_is, goes_on_with, is_text_token};
+ghost use Rattle.tall_expr.specs.Reads.{Reads, kept_by};
+ghost use Rattle.tall_grammar.specs.Views.{tree_of};
+
+use crate::cursor::Tokens;
+use tall_grammar::expressions::Expr;
+use tall_grammar::faults::Fault;
+use crate::kept::Kept;
+use crate::nodes;
+use crate::values::text_value;
+use sqlite_items::Items;
+use std::alloc::Global;
+
+/// A text.
+fn text(alloc: Global, tokens: &mut Tokens<'_>, line: u32) -> Result<Expr, Fault>
+    ensures { Reads tree_of (spec.text_here line tokens.old) result tokens.new }
+{
+    let value = text_value(alloc, tokens.take_text()?)?;
+    Ok(nodes::text(tokens.number()?, line, value))
+}
+
+/// Does a text come next, or a comma?
+fn goes_on(tokens: &Tokens<'_>) -> bool
+    ensures { result ≡ front_is (goes_on_with is_text_token) tokens.now.rest }
+{
+    tokens.is_text() || tokens.is_sign(b",")
+}
+
+/// Texts, with a comma or without one between two.
+fn texts(
+    alloc: Global,
+    tokens: &mut Tokens<'_>,
+    turns: usize,
+    line: u32,
+) -> Result<Items<Expr>, Fault>
+    ensures { Reads (map tree_of) (spec.texts turns line tokens.old) result tokens.new }
+{
+    let mut found = Items::new(alloc);
+    found.push(text(alloc, tokens, line)?)?;
+    for _turn in 0..turns {
+        if !goes_on(tokens) {
+            return Ok(found);
+        }
+        tokens.skip_comma();
+        found.push(text(alloc, tokens, line)?)?;
+    }
+    Err(Fault::Memory)
+}
+
+/// What follows on the texts of a list.
+fn closed(
+    tokens: &mut Tokens<'_>,
+    bracket: &[u8],
+    line: u32,
+    texts: Items<Expr>,
+) -> Result<Kept<Expr>, Fault>
+    ensures { Reads (kept_by tree_of) (spec.closed_list line bracket.now (map tree_of texts) tokens.old) result tokens.new }
+{
+    tokens.expect_sign(bracket)?;
+    let height = if texts.is_empty() { 1 } else { 2 };
+    Ok(Some((nodes::list(tokens.number()?, line, texts), height)))
+}
+
+/// A list behind its brace.
+pub fn in_braces(
+    alloc: Global,
+    tokens: &mut Tokens<'_>,
+    turns: usize,
+    line: u32,
+) -> Result<Kept<Expr>, Fault>
+    ensures { Reads (kept_by tree_of) (spec.list_in_braces turns line tokens.old) result tokens.new }
+{
+    if tokens.is_text() {
+        let texts = texts(alloc, tokens, turns, line)?;
+        closed(tokens, b"}", line, texts)
+    } else {
+        closed(tokens, b"}", line, Items::new(alloc))
+    }
+}
+
+/// A list behind its bracket.
+pub fn in_brackets(
+    alloc: Global,
+    tokens: &mut Tokens<'_>,
+    turns: usize,
+    line: u32,
+) -> Result<Kept<Expr>, Fault>
+    ensures { Reads (kept_by tree_of) (spec.list_in_brackets turns line tokens.old) result tokens.new }
+{
+    let texts = texts(alloc, tokens, turns, line)?;
+    closed(tokens, b"]", line, texts)
+}

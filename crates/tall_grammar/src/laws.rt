@@ -1,0 +1,22 @@
+//! A law of the definitions of scripts, the contract of a function without a body.
+ghost use Rattle.std.specs.Prelude.{◌≡◌, ℕ, List, None, Some};
+ghost use Rattle.tall_grammar.specs.Lexemes.{Lexeme};
+ghost use Rattle.tall_grammar.specs.Readers.{input};
+ghost use Rattle.tall_grammar.specs.Refusals.{Answer, Parses, Reads, too_deep};
+ghost use Rattle.tall_grammar.specs.ScriptReader.{program};
+ghost use Rattle.tall_grammar.specs.Verdicts.{said, verdict};
+
+/// What the reader from left to right says of tokens is what the grammar says of them, and the grammar says nothing else:
+/// the one script, the line of the first token with which no script goes on, or the line of the first expression that is
+/// too high (docs/LANGUAGE.md, "Grammar"). The tokens are those of a script whose brackets are not too deep; the reader is
+/// given a number of turns and a depth, and says nothing where these run out.
+pub fn the_reader_tells_the_answer()
+    ensures told { (turns depth last : ℕ) (ts : List Lexeme) (answer : Answer) → too_deep ts ≡ None → said last ts (program turns depth (input ts 1)) ≡ Some answer → Reads last ts answer }
+    ensures alone { (turns depth last : ℕ) (ts : List Lexeme) (answer other : Answer) → too_deep ts ≡ None → said last ts (program turns depth (input ts 1)) ≡ Some answer → Reads last ts other → other ≡ answer }
+{}
+
+/// What the reader says of bytes is what they are as a script: too long, a first bad token, brackets too deep, or what the
+/// reader tells of their tokens. So a row that computes shows that bytes are a script, or are none, and why.
+pub fn the_verdict_is_the_answer()
+    ensures { (turns depth : ℕ) (bytes : List ℕ) (answer : Answer) → verdict turns depth bytes ≡ Some answer → Parses bytes answer }
+{}

@@ -1,0 +1,8 @@
+use Rattle.std.proofs.Common.{arith}
+use Rattle.tall_grammar.specs.ScriptReader.{steps_within}
+use Rattle.tall_expr.proofs.Turns.{deeper}
+use Rattle.tall_parse.proofs.function_steps.+steps.Goals as goal
+
+pub returns : goal.returns
+unfolding steps_within
+returns t c = rw (deeper (λ n. steps_within c.args.reading.turns c.args.reading.depth n c.args.tokens.now) c.args.blocks (omega arith)) c.steps.ensures

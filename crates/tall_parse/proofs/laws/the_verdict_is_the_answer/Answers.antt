@@ -1,5 +1,0 @@
-use Rattle.tall_parse.proofs.OfBytes.{verdict_tells}
-use Rattle.tall_parse.proofs.laws.the_verdict_is_the_answer.Goals as goal
-
-pub returns : goal.returns
-returns c = verdict_tells

@@ -1,0 +1,23 @@
+use Rattle.std.proofs.Common.{rules, arith, map}
+use Rattle.std.proofs.lemmas.Grind.{common_steps}
+use Rattle.tall_grammar.specs.Readers.{listed_from, is_name, take_text}
+use Rattle.tall_expr.proofs.Turns.{one_more}
+use Rattle.tall_parse.proofs.statements.Reading.names.Goals as goal
+
+pub returns-then-not-goes_on_with_name : goal.returns-then-not-goes_on_with_name
+unfolding listed_from
+returns-then-not-goes_on_with_name c =
+    let e = one_more (λ n. listed_from is_name (take_text is_name) n c.loop-turn.found c.loop-turn.tokens) _ c.loop-turn._turn c.loop-turn-test.true c.loop-turn.invariant in
+    first_of (search rules, grind (arith, common_steps))
+
+pub returns-in_err-name-2 : goal.returns-in_err-name-2
+unfolding listed_from
+returns-in_err-name-2 c =
+    let e = one_more (λ n. listed_from is_name (take_text is_name) n c.loop-turn.found c.loop-turn.tokens) _ c.loop-turn._turn c.loop-turn-test.true c.loop-turn.invariant in
+    first_of (search rules, grind (arith, common_steps))
+
+pub loop-turn-preserved : goal.loop-turn-preserved
+unfolding listed_from
+loop-turn-preserved c =
+    let e = one_more (λ n. listed_from is_name (take_text is_name) n c.loop-turn.found c.loop-turn.tokens) _ c.loop-turn._turn c.loop-turn-test.true c.loop-turn.invariant in
+    first_of (search rules, grind (arith, common_steps))
