@@ -25,3 +25,4 @@ pub mod Programs
 pub mod Verdict
 pub mod Telling
 pub mod OfBytes
+pub mod Lasting
