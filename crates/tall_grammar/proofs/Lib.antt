@@ -26,3 +26,4 @@ pub mod Verdict
 pub mod Telling
 pub mod OfBytes
 pub mod Lasting
+pub mod Depths

@@ -85,7 +85,7 @@ exact_skip = record {
 pub data SeparatorsRule : ℕ → List Lexeme → Bool → ℕ → Type 0 where
   separators_rule : (m : ℕ) (p : Lexeme) (ps : List Lexeme) → is_separator p ≡ true → AreSeparators ps → SeparatorsRule m (p ∷ ps) (shows p) m
 
-shows_if : (t : Lexeme) (b : Bool) → separator_shows t ≡ Some b → (is_separator t ≡ true) × (shows t ≡ b)
+pub shows_if : (t : Lexeme) (b : Bool) → separator_shows t ≡ Some b → (is_separator t ≡ true) × (shows t ≡ b)
 shows_if t b h = (elim (is_separator t) as (λ x. is_separator t ≡ x → (if x then Some (shows t) else None) ≡ Some b → (is_separator t ≡ true) × (shows t ≡ b)) [
   | true ↦ λ e h. (e, let g : shows t ≡ b = cc in g)
   | false ↦ λ e h. absurd cc

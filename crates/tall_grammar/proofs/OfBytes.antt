@@ -18,7 +18,7 @@ same_answer a b e = cc
 
 -- ---- of tokens
 
-lexemes_tell : (k d last : ℕ) (ts : List Lexeme) (a : Answer) (deep : Option ℕ) → too_deep ts ≡ deep → lexemes_said k d last ts deep ≡ Some a → Reads last ts a
+pub lexemes_tell : (k d last : ℕ) (ts : List Lexeme) (a : Answer) (deep : Option ℕ) → too_deep ts ≡ deep → lexemes_said k d last ts deep ≡ Some a → Reads last ts a
 lexemes_tell k d last ts a None e q = said_tells k d last ts a e q
 lexemes_tell k d last ts a (Some line) e q = subst (Reads last ts) (same_answer (too_deep_at line) a q) (is_too_deep e)
 

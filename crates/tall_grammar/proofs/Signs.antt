@@ -60,7 +60,7 @@ kind_number Name h = absurd cc
 kind_number Sign h = absurd cc
 kind_number LineEnd h = absurd cc
 
-of_kind : (t : Lexeme) (k : TokenKind) → t.kind ≡ k → t ≡ record { kind = k; line = t.line; text = t.text }
+pub of_kind : (t : Lexeme) (k : TokenKind) → t.kind ≡ k → t ≡ record { kind = k; line = t.line; text = t.text }
 of_kind t k e = ap (λ (x : TokenKind). let l : Lexeme = record { kind = x; line = t.line; text = t.text } in l) e
 
 of_parts : (t : Lexeme) (k : TokenKind) (s : List ℕ) → t.kind ≡ k → t.text ≡ s → t ≡ record { kind = k; line = t.line; text = s }
