@@ -27,3 +27,4 @@ pub mod Telling
 pub mod OfBytes
 pub mod Lasting
 pub mod Depths
+pub mod LastingExprs
