@@ -28,3 +28,5 @@ pub mod OfBytes
 pub mod Lasting
 pub mod Depths
 pub mod LastingExprs
+pub mod LastingScripts
+pub mod Enough

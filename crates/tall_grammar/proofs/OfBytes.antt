@@ -13,7 +13,7 @@ use Rattle.tall_grammar.specs.Readers.{input}
 use Rattle.tall_grammar.specs.Verdicts.{lexemes_said, said, tokens_said, verdict}
 use Rattle.tall_grammar.proofs.Telling.{said_alone, said_tells}
 
-same_answer : (a b : Answer) → ◌≡◌ {A = Option Answer} (Some a) (Some b) → a ≡ b
+pub same_answer : (a b : Answer) → ◌≡◌ {A = Option Answer} (Some a) (Some b) → a ≡ b
 same_answer a b e = cc
 
 -- ---- of tokens
@@ -28,7 +28,7 @@ none_deep ts l e f = let g : ◌≡◌ {A = Option ℕ} (Some l) None = sym e �
 same_line_of : (l m : ℕ) → ◌≡◌ {A = Option ℕ} (Some l) (Some m) → l ≡ m
 same_line_of l m e = cc
 
-lexemes_alone : (k d last : ℕ) (ts : List Lexeme) (a b : Answer) (deep : Option ℕ) → too_deep ts ≡ deep → lexemes_said k d last ts deep ≡ Some a → Reads last ts b → b ≡ a
+pub lexemes_alone : (k d last : ℕ) (ts : List Lexeme) (a b : Answer) (deep : Option ℕ) → too_deep ts ≡ deep → lexemes_said k d last ts deep ≡ Some a → Reads last ts b → b ≡ a
 lexemes_alone k d last ts a b None e q r = said_alone k d last ts a b e q r
 lexemes_alone k d last ts a _ (Some line) e q (is_too_deep {l} f) = ap too_deep_at (same_line_of l line (sym f ∙ e)) ∙ same_answer (too_deep_at line) a q
 lexemes_alone k d last ts a _ (Some line) e q (stops_short {l} f s) = absurd (none_deep ts line e f)
