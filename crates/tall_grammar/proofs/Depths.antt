@@ -1,5 +1,5 @@
 -- How many brackets and blocks are open behind a token, by what the token is.
-use Rattle.std.proofs.Common.{◌≡◌, ℕ, ◌+◌, ◌-◌, Bool, true, false, List, [], ◌∷◌, Option, Some, None, refl, sym, ap, ◌∙◌, arith}
+use Rattle.std.proofs.Common.{◌≡◌, ℕ, ◌+◌, ◌-◌, Bool, true, false, List, Option, Some, None, refl, ap, ◌∙◌, arith}
 use Rattle.std.specs.Prelude.{zero, suc, if◌then◌else◌, ◌||◌, ◌&&◌, not, codes}
 use Rattle.std.specs.List.{list_any}
 use Rattle.tall_lex.specs.declared.tokens.TokenKind.{TokenKind}

@@ -11,7 +11,7 @@ use Rattle.tall_lex.proofs.Begun.{token_some}
 use Rattle.tall_lex.proofs.ByteScripts.{bytes_are}
 use Rattle.tall_grammar.specs.declared.faults.Fault.TheVariants.{Stop, Memory}
 use Rattle.tall_grammar.specs.Lexemes.{Lexeme, lexeme_of, lexemes_of}
-use Rattle.tall_grammar.specs.Refusals.{Answer, Parses, Reads, bad_token, has_bad_token, has_tokens, is_too_long, last_line, limit, longest, too_deep, too_deep_at, too_long}
+use Rattle.tall_grammar.specs.Refusals.{Answer, Parses, bad_token, has_bad_token, has_tokens, is_too_long, last_line, limit, longest, too_deep, too_deep_at, too_long}
 use Rattle.tall_grammar.specs.Kept.{Flagged}
 use Rattle.tall_grammar.specs.Trees.{Program}
 use Rattle.tall_grammar.specs.Readers.{Outcome, input}

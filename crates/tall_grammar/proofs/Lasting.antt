@@ -1,11 +1,11 @@
 -- Readers that last: given more turns than there are tokens left, and depth for what may still be open, they never run out.
-use Rattle.std.proofs.Common.{◌≡◌, ℕ, suc, zero, ◌+◌, ◌<◌, ◌≤◌, Bool, true, false, List, [], ◌∷◌, length, Option, Some, None, refl, sym, ap, ◌∙◌, subst, arith}
+use Rattle.std.proofs.Common.{◌≡◌, ℕ, suc, zero, ◌<◌, ◌≤◌, Bool, true, false, List, [], ◌∷◌, length, Option, Some, None, refl, subst, arith}
 use Rattle.std.proofs.lemmas.Bool.Decides.{nat_tests}
 use Rattle.std.specs.Prelude.{Ok, Err, if◌then◌else◌, nat_lt}
 use Rattle.tall_grammar.specs.declared.faults.Fault.TheVariants.{Stop, Memory}
 use Rattle.tall_grammar.specs.Lexemes.{Lexeme}
 use Rattle.tall_grammar.specs.Refusals.{limit, open_behind, too_deep_from}
-use Rattle.tall_grammar.specs.Readers.{Input, input, Outcome, Reader, and_then, ◌>>=◌, pure, stopped, front_as, front_is, chosen, given, given_if, peek, take_as, take_text, text_if, expect, numbered}
+use Rattle.tall_grammar.specs.Readers.{Input, input, Outcome, Reader, and_then, ◌>>=◌, pure, stopped, front_is, chosen, given, given_if, peek, take_as, take_text, text_if, expect, numbered}
 use Rattle.tall_grammar.proofs.Signs.{text_if_is}
 
 -- Fewer tokens than so many are left. So many brackets and blocks are open, which is no more than may be, and behind none

@@ -1,16 +1,15 @@
 -- Readers of expressions last, where their turns are no fewer than the tokens left, and their depth is enough for the
 -- brackets and blocks that may be open still.
-use Rattle.std.proofs.Common.{◌≡◌, ℕ, suc, zero, ◌+◌, ◌<◌, ◌≤◌, Bool, List, [], ◌∷◌, ◌++◌, Option, Some, refl, arith}
+use Rattle.std.proofs.Common.{◌≡◌, ℕ, suc, zero, ◌+◌, ◌<◌, ◌≤◌, Bool, List, [], ◌∷◌, ◌++◌, Option, refl, arith}
 use Rattle.std.specs.Prelude.{codes}
 use Rattle.tall_grammar.specs.declared.expressions.Prefix.{Prefix}
-use Rattle.tall_grammar.specs.declared.expressions.Infix.{Infix}
 use Rattle.tall_grammar.specs.Lexemes.{Lexeme, sign, is_the_sign, prefix_sign, number_value, text_value}
 use Rattle.tall_grammar.specs.Trees.{Tree, tree, number, text, name, handle}
 use Rattle.tall_grammar.specs.Refusals.{limit, open_behind}
 use Rattle.tall_grammar.specs.Kept.{Kept, leaf, list_of, prefixed_of, joined_of, member_of, call_of, no_arguments, a_colon, a_value, and_argument}
-use Rattle.tall_grammar.specs.Readers.{Reader, ◌>>=◌, pure, given, given_if, peek, take_text, expect_sign, is_name, is_text_token, is_number, operator_of, numbered, optional_comma, goes_on_with, listed, listed_from}
+use Rattle.tall_grammar.specs.Readers.{Reader, ◌>>=◌, pure, given_if, peek, take_text, expect_sign, is_name, is_text_token, is_number, operator_of, numbered, optional_comma, goes_on_with, listed, listed_from}
 use Rattle.tall_grammar.specs.ExprReader.{text_here, texts, closed_list, list_in_braces, list_in_brackets, number_leaf, text_leaf, name_leaf, a_handle, in_parentheses, signed_primary, primary, arg, args_from, closed_args, post_from, post, signs_from, signed, chain_from, operators, pre, level, expr_within}
-use Rattle.tall_grammar.proofs.Lasting.{Lasts, lasts_none, lasts_more, lasts_any, lasts_pure, lasts_stopped, lasts_numbered, lasts_bind, lasts_peek, lasts_given, lasts_given_if, lasts_given_any, lasts_take_text, lasts_expect}
+use Rattle.tall_grammar.proofs.Lasting.{Lasts, lasts_none, lasts_more, lasts_any, lasts_pure, lasts_numbered, lasts_bind, lasts_peek, lasts_given, lasts_given_if, lasts_given_any, lasts_take_text, lasts_expect}
 use Rattle.tall_grammar.proofs.Depths.{sign_moves, one_less, name_stays, text_stays, number_stays, prefix_stays, operators_stay}
 
 -- ---- one token

@@ -1,11 +1,11 @@
 -- The reader of scripts lasts, where its turns are more than the tokens and its depth is above the limit.
-use Rattle.std.proofs.Common.{◌≡◌, ℕ, suc, zero, ◌+◌, ◌<◌, ◌≤◌, Bool, true, false, List, [], ◌∷◌, ◌++◌, Option, refl, ap, arith}
+use Rattle.std.proofs.Common.{◌≡◌, ℕ, suc, zero, ◌+◌, ◌<◌, ◌≤◌, Bool, true, false, List, [], ◌∷◌, refl, arith}
 use Rattle.std.specs.Prelude.{Ok, if◌then◌else◌, codes}
 use Rattle.tall_grammar.specs.Lexemes.{Lexeme, sign, word, is_the_sign, is_the_word, is_separator, is_text}
-use Rattle.tall_grammar.specs.Trees.{Tree, Step, Steps, Body, Entry, Routine, Program}
+use Rattle.tall_grammar.specs.Trees.{Tree, Step, Steps, Entry, Routine}
 use Rattle.tall_grammar.specs.Refusals.{limit, open_behind}
 use Rattle.tall_grammar.specs.Kept.{Flagged, with_it, with_both, and_last}
-use Rattle.tall_grammar.specs.Readers.{Input, input, Reader, ◌>>=◌, pure, given_if, take_as, take_text, expect, expect_sign, expect_word, is_name, skip_separators, without_separators}
+use Rattle.tall_grammar.specs.Readers.{input, Reader, ◌>>=◌, pure, given_if, take_as, take_text, expect, expect_sign, expect_word, is_name, skip_separators, without_separators}
 use Rattle.tall_grammar.specs.ExprReader.{expr_within, closed_args}
 use Rattle.tall_grammar.specs.ScriptReader.{line_here, on_line, at_end, ends_statements, begins_assignment, begins_property, begins_targets, begins_step, is_the_name, word_line, separator_shows, separators, ended, expr_on, names, assignment, property_setting, gathering, bare_expression, body, statement, statements_from, named_assignment, adding, named_step, a_named_step, arm, otherwise, arms_from, rest_arm, choosing, looping, counting, step, steps_from, steps_within, parameter_of, parameter, parameters, new_name, routine, function_rest, functions_from, program_of_parts, program}
 use Rattle.tall_grammar.proofs.Lasting.{Fits, Lasts, Moves, more_fits, behind_it, lasts_none, lasts_more, lasts_any, lasts_pure, lasts_bind, lasts_if, lasts_peek, lasts_given, lasts_given_if, lasts_given_any, lasts_take, lasts_take_text, lasts_expect}

@@ -1,16 +1,13 @@
 -- What is said of bytes is what they are, and they are nothing else.
-use Rattle.std.proofs.Common.{◌≡◌, ℕ, ◌<◌, ◌≤◌, List, length, Bool, true, false, Option, Some, None, Result, Ok, Err, refl, sym, ap, ◌∙◌, subst, arith}
+use Rattle.std.proofs.Common.{◌≡◌, ℕ, ◌<◌, ◌≤◌, List, length, Bool, true, false, Option, Some, None, Ok, Err, refl, sym, ap, ◌∙◌, subst, arith}
 use Rattle.std.specs.Bool.{Decides}
 use Rattle.std.specs.Prelude.{if◌then◌else◌, nat_lt}
 use Rattle.std.proofs.lemmas.Bool.Decides.{Decides-ltb}
 use Rattle.std.proofs.lemmas.Bool.{false≢true}
-use Rattle.tall_lex.specs.declared.tokens.Token.{Token}
 use Rattle.tall_lex.specs.Tokens.{Lexed, tokens_of_bytes}
 use Rattle.tall_grammar.specs.Lexemes.{Lexeme, lexemes_of}
 use Rattle.tall_grammar.specs.Refusals.{Answer, Parses, Reads, bad_token, has_bad_token, has_tokens, is_script, is_too_deep, is_too_high, is_too_long, last_line, longest, stops_short, ends_early, too_deep, too_deep_at, too_long}
-use Rattle.tall_grammar.specs.ScriptReader.{program}
-use Rattle.tall_grammar.specs.Readers.{input}
-use Rattle.tall_grammar.specs.Verdicts.{lexemes_said, said, tokens_said, verdict}
+use Rattle.tall_grammar.specs.Verdicts.{lexemes_said, tokens_said, verdict}
 use Rattle.tall_grammar.proofs.Telling.{said_alone, said_tells}
 
 pub same_answer : (a b : Answer) → ◌≡◌ {A = Option Answer} (Some a) (Some b) → a ≡ b

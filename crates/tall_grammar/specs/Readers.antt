@@ -36,7 +36,7 @@ pure a = λ i. Ok (a, i)
 abbrev pub stopped : {A : Type 0} → Reader A
 stopped = λ i. Err (Stop (length i.rest))
 
--- no more turns: never where their number is that of the tokens
+-- no more turns: never where they were more than the tokens
 abbrev pub tired : {A : Type 0} → Reader A
 tired = λ i. Err Memory
 

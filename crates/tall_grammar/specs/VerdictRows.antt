@@ -1,5 +1,5 @@
 -- Scripts, and bytes that are none, by computation. By the law `the_verdict_is_the_answer` each row says what the bytes are.
-use Rattle.std.specs.Prelude.{◌≡◌, ℕ, ⊤, Bool, true, false, List, [], ◌∷◌, ◌++◌, Option, Some, None, replicate, codes, refl}
+use Rattle.std.specs.Prelude.{◌≡◌, ⊤, Bool, true, false, [], ◌++◌, Option, Some, None, replicate, codes, refl}
 use Rattle.std.specs.Str.{chars, is_utf8}
 use Rattle.std.specs.Str.Lossy.{utf8_valid_len}
 use Rattle.std.proofs.Math.Utf8.{encode}
@@ -10,7 +10,7 @@ use Rattle.tall_lex.specs.Tokens.{tokens_from, tokens_of_bytes}
 use Rattle.tall_grammar.specs.ExprReader.{args_from, post_from, signs_from, signed, chain_from, level, expr_within}
 use Rattle.tall_grammar.specs.Readers.{listed_from}
 use Rattle.tall_grammar.specs.ScriptReader.{statements_from, arms_from, steps_from, steps_within, functions_from}
-use Rattle.tall_grammar.specs.Refusals.{Answer, read, too_long, bad_token, syntax_at, too_deep_at}
+use Rattle.tall_grammar.specs.Refusals.{Answer, read, bad_token, syntax_at, too_deep_at}
 use Rattle.tall_grammar.specs.Verdicts.{verdict}
 
 -- unfolded, it lets bytes be read by computing
@@ -49,9 +49,23 @@ sixty_three_signs : is_read (verdict 80 2 (codes "x = " ++ (replicate 63 45 ++ c
 unfolding reading
 sixty_three_signs = refl
 
-sixty_four_parentheses : is_read (verdict 140 66 (codes "x = " ++ (replicate 64 40 ++ (codes "1" ++ replicate 64 41)))) ≡ true
+sixty_four_parentheses : is_read (verdict 132 65 (codes "x = " ++ (replicate 64 40 ++ (codes "1" ++ replicate 64 41)))) ≡ true
 unfolding reading
 sixty_four_parentheses = refl
+
+-- ---- one turn more than there are tokens, and a depth above the limit, are the least that always do
+
+no_depth_for_the_last : verdict 132 64 (codes "x = " ++ (replicate 64 40 ++ (codes "1" ++ replicate 64 41))) ≡ None
+unfolding reading
+no_depth_for_the_last = refl
+
+two_turns_for_a_token : is_read (verdict 2 65 (codes "1")) ≡ true
+unfolding reading
+two_turns_for_a_token = refl
+
+one_turn_for_a_token : verdict 1 65 (codes "1") ≡ None
+unfolding reading
+one_turn_for_a_token = refl
 
 -- ---- none: the line of the first token with which no script goes on, and at the end the last line
 

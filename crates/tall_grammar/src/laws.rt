@@ -1,8 +1,8 @@
-//! A law of the definitions of scripts, the contract of a function without a body.
-ghost use Rattle.std.specs.Prelude.{◌≡◌, ℕ, List, None, Some};
+//! Laws of the definitions of scripts, the contracts of functions without a body.
+ghost use Rattle.std.specs.Prelude.{◌≡◌, ◌<◌, ℕ, List, length, None, Some};
 ghost use Rattle.tall_grammar.specs.Lexemes.{Lexeme};
 ghost use Rattle.tall_grammar.specs.Readers.{input};
-ghost use Rattle.tall_grammar.specs.Refusals.{Answer, Parses, Reads, too_deep};
+ghost use Rattle.tall_grammar.specs.Refusals.{Answer, Parses, Reads, limit, too_deep};
 ghost use Rattle.tall_grammar.specs.ScriptReader.{program};
 ghost use Rattle.tall_grammar.specs.Verdicts.{said, verdict};
 
@@ -19,4 +19,13 @@ pub fn the_reader_tells_the_answer()
 /// reader tells of their tokens. So a row that computes shows that bytes are a script, or are none, and why.
 pub fn the_verdict_is_the_answer()
     ensures { (turns depth : ℕ) (bytes : List ℕ) (answer : Answer) → verdict turns depth bytes ≡ Some answer → Parses bytes answer }
+{}
+
+/// With more turns than there are tokens, or bytes, and a depth above the limit, the reader never runs out. So each text has
+/// an answer, and no other.
+pub fn each_text_has_one_answer()
+    ensures lasts { (turns depth last : ℕ) (ts : List Lexeme) → too_deep ts ≡ None → length ts < turns → limit < depth → (answer : Answer) × (said last ts (program turns depth (input ts 1)) ≡ Some answer) }
+    ensures found { (turns depth : ℕ) (bytes : List ℕ) → length bytes < turns → limit < depth → (answer : Answer) × (verdict turns depth bytes ≡ Some answer) }
+    ensures some { (bytes : List ℕ) → (answer : Answer) × Parses bytes answer }
+    ensures alone { (bytes : List ℕ) (answer other : Answer) → Parses bytes answer → Parses bytes other → answer ≡ other }
 {}
