@@ -1,11 +1,14 @@
--- Loops that count turns up, beside readers that count them down; and signs as operators.
-use Rattle.std.proofs.Common.{◌≡◌, refl, ℕ, suc, ◌+◌, ◌-◌, ◌<◌, ◌≤◌, ap, ◌∙◌, sym, arith, List, [], ◌∷◌, Option, Some, None, Bool, true, false, length, take, map, reverse, Ok, Err}
+-- Loops that count turns up, beside readers that count them down; signs as operators; names in a set.
+use Rattle.std.proofs.Common.{◌≡◌, refl, ℕ, suc, ◌+◌, ◌-◌, ◌<◌, ap, ◌∙◌, sym, arith, List, [], ◌∷◌, Option, Some, None, ◌||◌, length, take, map, String, string_bytes, Ok, Err}
 use Rattle.std.specs.List.{list_any}
-use Rattle.std.proofs.lemmas.List.{map-append, reverse-append}
-use Rattle.std.proofs.lemmas.List.Folds.{list_any-append}
-use Rattle.tall_grammar.specs.Lexemes.{Lexeme, is_sign_kind, all_but_last}
+use Rattle.std.specs.BTreeMap.{is_at}
+use Rattle.std.specs.Cmp.Lexicographic.{slice_cmp}
+use Rattle.std.specs.Ordering.{nat_cmp}
+use Rattle.std.proofs.lemmas.List.{map-append}
+use Rattle.std.proofs.lemmas.Map.Text.{is_eq-slice_cmp}
+use Rattle.tall_grammar.specs.Lexemes.{Lexeme, is_text, all_but_last}
 use Rattle.tall_grammar.specs.Readers.{front_as, operator_of, text_if}
-use Rattle.tall_expr.specs.Reads.{is_sign_token}
+use Rattle.tall_expr.specs.Gives.{is_sign_token}
 use Rattle.tall_grammar.specs.Kept.{Flagged, with_it, and_last}
 
 pub one_more : {X : Type 0} {x : X} (f : ℕ → X) (n at : ℕ) → at < n → x ≡ f (n - at) → x ≡ f (suc (n - (at + 1)))
@@ -38,10 +41,11 @@ with_last f (Ok xs) (Ok x) = ap Ok (map-append f xs (x ∷ []))
 with_last f (Ok xs) (Err h) = refl
 with_last f (Err h) a = refl
 
-pub any_reversed : {X : Type 0} (p : X → Bool) (xs : List X) → list_any p xs ≡ list_any p (reverse xs)
-any_reversed p [] = refl
-any_reversed p (x ∷ xs) =
-    let e = any_reversed p xs in
-    let r = reverse-append (x ∷ []) xs in
-    let a = list_any-append p (reverse xs) (x ∷ []) in
-    grind arith
+-- a set of names has this text
+pub among : {Y : Type 0} (text : List ℕ) (names : List (String Y))
+    → list_any (is_at (λ k. slice_cmp nat_cmp text (string_bytes k))) names ≡ list_any (is_text text) (map string_bytes names)
+among text [] = refl
+among text (k ∷ ks) =
+    let e = is_eq-slice_cmp text (string_bytes k) in
+    let r = among text ks in
+    ap (λ b. b || list_any (is_at (λ k. slice_cmp nat_cmp text (string_bytes k))) ks) e ∙ ap (λ b. is_text text (string_bytes k) || b) r

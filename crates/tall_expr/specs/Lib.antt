@@ -1,4 +1,3 @@
 pub mod Cursor
+pub mod Gives
 pub mod Nests
-pub mod Reads
-pub mod ReaderParts

@@ -1,5 +1,5 @@
 //! A cursor over the tokens of a script.
-ghost use Rattle.std.specs.Prelude.{◌≡◌, option_map, ◌≤◌, reverse, length, IfOk, Ok};
+ghost use Rattle.std.specs.Prelude.{◌≡◌, option_map, length, map, string_bytes, IfOk, Ok};
 ghost use Rattle.std.specs.List.{AllByRecursion, list_any};
 ghost use Rattle.std.specs.Str.{IsUtf8};
 ghost use Rattle.tall_lex.specs.Tokens.{token_text};
@@ -9,17 +9,18 @@ ghost use Rattle.tall_grammar.specs.Readers as spec;
 ghost use Rattle.tall_grammar.specs.Readers.{input, behind, front_is, front_as, operator_of, text_if};
 ghost use Rattle.tall_grammar.specs.ExprReader.{operators};
 ghost use Rattle.tall_grammar.specs.ScriptReader as reader;
-ghost use Rattle.tall_expr.specs.Reads.{Reads, is_sign_token, is_line_end_token, IsSlice, itself};
+ghost use Rattle.tall_expr.specs.Gives.{Gives, is_sign_token, is_line_end_token, IsSlice, itself};
 
-use tall_grammar::expressions::{Infix, Prefix};
-use tall_grammar::faults::Fault;
-use crate::operators::{is, operator, prefix};
+use crate::operators::{operator, prefix};
+use std::collections::BTreeSet;
 use std::marker::Model;
 use std::str::from_utf8_unchecked;
+use tall_grammar::expressions::{Infix, Prefix};
+use tall_grammar::faults::Fault;
 use tall_lex::{Token, TokenKind};
-use tall_value::Name;
 
-/// The tokens of a script that are left, and the number of the next expression.
+/// The tokens of a script that are left, and the number of the next expression. What can't take the first token answers
+/// `Fault::Stop`, with the number of tokens left.
 #[derive(Drop)]
 pub struct Tokens<'a> {
     script: &'a [u8],
@@ -64,22 +65,14 @@ fn is_the_name(script: &[u8], token: &Token, name: &[u8]) -> bool
 }
 
 /// Is the text one of these names?
-fn is_known(names: &[Name], text: &[u8]) -> bool
-    ensures { result ≡ list_any (is_text text.now) names.now }
+fn is_taken(names: &BTreeSet<String>, text: &str) -> bool
+    ensures { result ≡ list_any (is_text text.now) (map string_bytes names.now.keys) }
 {
-    names.iter().any(|name| is(text, name.as_str().as_bytes()))
-}
-
-/// The same, of the names from the last one on.
-#[tactic(auto, using(crate::proofs::Turns::any_reversed))]
-fn is_taken(names: &[Name], text: &[u8]) -> bool
-    ensures { result ≡ list_any (is_text text.now) (reverse names.now) }
-{
-    is_known(names, text)
+    names.contains(text)
 }
 
 impl<'a> Tokens<'a> {
-    /// Before the tokens of a script.
+    /// Before the tokens of a script, which are spans of its bytes. The first expression has the number 1.
     pub fn new(script: &'a [u8], tokens: &'a [Token]) -> Tokens<'a>
         requires { AllByRecursion (IsSlice script.now) tokens.now }
         ensures { result ≡ input (lexemes_of script.now tokens.now) 1 }
@@ -92,7 +85,7 @@ impl<'a> Tokens<'a> {
     }
 
     /// Why no rule goes on with the first token.
-    pub fn stop(&self) -> Fault
+    fn stop(&self) -> Fault
         ensures { result ≡ Stop (length self.now.rest) }
     {
         Fault::Stop(self.rest.len())
@@ -129,7 +122,7 @@ impl<'a> Tokens<'a> {
     }
 
     /// Is the first token a text?
-    pub fn is_text(&self) -> bool
+    pub(crate) fn is_text(&self) -> bool
         ensures { result ≡ front_is spec.is_text_token self.now.rest }
     {
         match self.rest {
@@ -139,7 +132,7 @@ impl<'a> Tokens<'a> {
     }
 
     /// Is the first token a number?
-    pub fn is_number(&self) -> bool
+    pub(crate) fn is_number(&self) -> bool
         ensures { result ≡ front_is spec.is_number self.now.rest }
     {
         match self.rest {
@@ -160,7 +153,7 @@ impl<'a> Tokens<'a> {
 
     /// The operator of a level that the first token is.
     #[tactic(auto, using(crate::proofs::Turns::of_sign, crate::proofs::Turns::of_no_sign))]
-    pub fn operator(&self, level: u32) -> Option<Infix>
+    pub(crate) fn operator(&self, level: u32) -> Option<Infix>
         ensures { result ≡ front_as (operator_of (operators level)) self.now.rest }
     {
         match self.sign() {
@@ -171,7 +164,7 @@ impl<'a> Tokens<'a> {
 
     /// The operator that the first token is before an operand.
     #[tactic(auto, using(crate::proofs::Turns::of_sign, crate::proofs::Turns::of_no_sign))]
-    pub fn prefix(&self) -> Option<Prefix>
+    pub(crate) fn prefix(&self) -> Option<Prefix>
         ensures { result ≡ front_as (operator_of prefix_sign) self.now.rest }
     {
         match self.sign() {
@@ -198,7 +191,7 @@ impl<'a> Tokens<'a> {
 
     /// Takes this name.
     pub fn expect_name(&mut self, name: &[u8]) -> Result<(), Fault>
-        ensures { Reads itself (spec.expect (reader.is_the_name name.now) self.old) result self.new }
+        ensures { Gives itself (spec.expect (reader.is_the_name name.now) self.old) result self.new }
     {
         match self.rest {
             [token, rest @ ..] if is_the_name(self.script, token, name) => {
@@ -210,16 +203,18 @@ impl<'a> Tokens<'a> {
     }
 
     /// Takes a name that is none of these.
-    pub fn take_new_name(&mut self, before: &[Name]) -> Result<&'a str, Fault>
-        ensures { Reads (λ s. s.now) (spec.take_as (reader.new_name (reverse before.now)) self.old) result self.new }
+    pub fn take_new_name(&mut self, before: &BTreeSet<String>) -> Result<&'a str, Fault>
+        ensures { Gives (λ s. s.now) (spec.take_as (reader.new_name (map string_bytes before.now.keys)) self.old) result self.new }
     {
         match self.rest {
-            [token, rest @ ..]
-                if token.kind == TokenKind::Name
-                    && !is_taken(before, text_of(self.script, token)) => {
-                self.rest = rest;
+            [token, rest @ ..] if token.kind == TokenKind::Name => {
                 // The bytes of a name are ASCII.
-                Ok(unsafe { from_utf8_unchecked(text_of(self.script, token)) })
+                let name = unsafe { from_utf8_unchecked(text_of(self.script, token)) };
+                if is_taken(before, name) {
+                    return Err(self.stop());
+                }
+                self.rest = rest;
+                Ok(name)
             }
             _ => Err(self.stop()),
         }
@@ -321,8 +316,7 @@ impl<'a> Tokens<'a> {
     }
 
     /// Is the first token a separator?
-
-    pub fn is_separator(&self) -> bool
+    fn is_separator(&self) -> bool
         ensures { result ≡ front_is is_separator self.now.rest }
     {
         self.is_sign(b";") || self.is_sign(b",") || self.is_line_end()
@@ -339,7 +333,7 @@ impl<'a> Tokens<'a> {
 
     /// Takes separators. Is a statement before them shown?
     pub fn separators(&mut self) -> Result<bool, Fault>
-        ensures { Reads itself (reader.separators self.old) result self.new }
+        ensures { Gives itself (reader.separators self.old) result self.new }
     {
         if !self.is_separator() {
             return Err(self.stop());
@@ -352,7 +346,7 @@ impl<'a> Tokens<'a> {
 
     /// Takes separators, or stands at the end of the text. Is a statement before it shown?
     pub fn ended(&mut self) -> Result<bool, Fault>
-        ensures { Reads itself (reader.ended self.old) result self.new }
+        ensures { Gives itself (reader.ended self.old) result self.new }
     {
         if self.is_at_end() {
             return Ok(true);
@@ -362,7 +356,7 @@ impl<'a> Tokens<'a> {
 
     /// Takes this sign.
     pub fn expect_sign(&mut self, sign: &[u8]) -> Result<(), Fault>
-        ensures { Reads itself (spec.expect_sign sign.now self.old) result self.new }
+        ensures { Gives itself (spec.expect_sign sign.now self.old) result self.new }
     {
         if !self.is_sign(sign) {
             return Err(self.stop());
@@ -382,7 +376,7 @@ impl<'a> Tokens<'a> {
 
     /// Takes this word.
     pub fn expect_word(&mut self, word: &[u8]) -> Result<(), Fault>
-        ensures { Reads itself (spec.expect_word word.now self.old) result self.new }
+        ensures { Gives itself (spec.expect_word word.now self.old) result self.new }
     {
         if !self.is_word(word) {
             return Err(self.stop());
@@ -393,7 +387,7 @@ impl<'a> Tokens<'a> {
 
     /// Takes a name.
     pub fn take_name(&mut self) -> Result<&'a str, Fault>
-        ensures { Reads (λ s. s.now) (spec.take_text spec.is_name self.old) result self.new }
+        ensures { Gives (λ s. s.now) (spec.take_text spec.is_name self.old) result self.new }
     {
         match self.rest {
             [token, rest @ ..] if token.kind == TokenKind::Name => {
@@ -406,8 +400,8 @@ impl<'a> Tokens<'a> {
     }
 
     /// Takes a text, with its quotes.
-    pub fn take_text(&mut self) -> Result<&'a [u8], Fault>
-        ensures read { Reads (λ s. s.now) (spec.take_text spec.is_text_token self.old) result self.new }
+    pub(crate) fn take_text(&mut self) -> Result<&'a [u8], Fault>
+        ensures read { Gives (λ s. s.now) (spec.take_text spec.is_text_token self.old) result self.new }
         ensures value { IfOk result (λ s. IsUtf8 (text_value s.now)) }
     {
         match self.rest {
@@ -420,8 +414,8 @@ impl<'a> Tokens<'a> {
     }
 
     /// Takes a number, as it is spelled.
-    pub fn take_number(&mut self) -> Result<&'a [u8], Fault>
-        ensures { Reads (λ s. s.now) (spec.take_text spec.is_number self.old) result self.new }
+    pub(crate) fn take_number(&mut self) -> Result<&'a [u8], Fault>
+        ensures { Gives (λ s. s.now) (spec.take_text spec.is_number self.old) result self.new }
     {
         match self.rest {
             [token, rest @ ..] if token.kind == TokenKind::Number => {
@@ -433,8 +427,8 @@ impl<'a> Tokens<'a> {
     }
 
     /// The number of an expression that is whole now.
-    pub fn number(&mut self) -> Result<u32, Fault>
-        ensures { Reads itself (spec.numbered itself self.old) result self.new }
+    pub(crate) fn number(&mut self) -> Result<u32, Fault>
+        ensures { Gives itself (spec.numbered itself self.old) result self.new }
     {
         let number = self.next;
         self.next = number.checked_add(1).ok_or(Fault::Memory)?;

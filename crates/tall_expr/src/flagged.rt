@@ -2,10 +2,10 @@
 ghost use Rattle.std.specs.Prelude.{◌≡◌, IfOk};
 ghost use Rattle.tall_grammar.specs.Kept as spec;
 
-use tall_grammar::faults::TooHigh;
 use crate::kept::Kept;
 use sqlite_items::Items;
 use std::alloc::AllocError;
+use tall_grammar::faults::TooHigh;
 
 /// A part of a script, or the first expression in it that is higher than it may be.
 pub type Flagged<T> = Result<T, TooHigh>;

@@ -5,23 +5,22 @@ ghost use Rattle.tall_grammar.specs.ExprReader as spec;
 ghost use Rattle.tall_grammar.specs.ExprReader.{expr_within};
 ghost use Rattle.tall_grammar.specs.Kept.{no_arguments};
 ghost use Rattle.tall_expr.specs.Nests.{Nests};
-ghost use Rattle.tall_expr.specs.ReaderParts as parts;
-ghost use Rattle.tall_expr.specs.Reads.{Reads, kept_by};
+ghost use Rattle.tall_expr.specs.Gives.{Gives, kept_by};
 ghost use Rattle.tall_grammar.specs.Views.{tree_of, arg_of};
 
 use crate::cursor::Tokens;
-use tall_grammar::expressions::{Arg, Expr};
-use tall_grammar::faults::Fault;
 use crate::kept::Kept;
 use crate::prefixes::{signed, signs};
 use crate::values::{number_value, text_value};
 use crate::{kept, nodes, text_lists};
 use sqlite_items::Items;
 use std::alloc::Global;
+use tall_grammar::expressions::{Arg, Expr};
+use tall_grammar::faults::Fault;
 use tall_value::Name;
 
 #[derive(Clone, Copy)]
-pub struct Grammar<F> {
+struct Grammar<F> {
     alloc: Global,
     /// The greatest number of turns of a loop: no fewer than the tokens.
     turns: usize,
@@ -35,34 +34,34 @@ pub struct Grammar<F> {
 impl<F: Fn(Global, &mut Tokens<'_>, usize, usize, u32) -> Result<Kept<Expr>, Fault>> Grammar<F> {
     fn expr(&self, tokens: &mut Tokens<'_>) -> Result<Kept<Expr>, Fault>
         requires { Nests self.now.turns self.now.depth (F.pre self.now.expr) (F.post self.now.expr) }
-        ensures { Reads (kept_by tree_of) (expr_within self.now.turns self.now.depth self.now.line tokens.old) result tokens.new }
+        ensures { Gives (kept_by tree_of) (expr_within self.now.turns self.now.depth self.now.line tokens.old) result tokens.new }
     {
         (self.expr)(self.alloc, tokens, self.turns, self.depth, self.line)
     }
 
     fn number(&self, tokens: &mut Tokens<'_>) -> Result<Kept<Expr>, Fault>
-        ensures { Reads (kept_by tree_of) (parts.number_here self.now.line tokens.old) result tokens.new }
+        ensures { Gives (kept_by tree_of) (spec.number_leaf self.now.line tokens.old) result tokens.new }
     {
         let value = number_value(tokens.take_number()?);
         Ok(Some((nodes::number(tokens.number()?, self.line, value), 1)))
     }
 
     fn text(&self, tokens: &mut Tokens<'_>) -> Result<Kept<Expr>, Fault>
-        ensures { Reads (kept_by tree_of) (parts.kept_text self.now.line tokens.old) result tokens.new }
+        ensures { Gives (kept_by tree_of) (spec.text_leaf self.now.line tokens.old) result tokens.new }
     {
         let value = text_value(self.alloc, tokens.take_text()?)?;
         Ok(Some((nodes::text(tokens.number()?, self.line, value), 1)))
     }
 
     fn name(&self, tokens: &mut Tokens<'_>) -> Result<Kept<Expr>, Fault>
-        ensures { Reads (kept_by tree_of) (parts.name_here self.now.line tokens.old) result tokens.new }
+        ensures { Gives (kept_by tree_of) (spec.name_leaf self.now.line tokens.old) result tokens.new }
     {
         let name = Name::of(self.alloc, tokens.take_name()?)?;
         Ok(Some((nodes::name(tokens.number()?, self.line, name), 1)))
     }
 
     fn handle(&self, tokens: &mut Tokens<'_>) -> Result<Kept<Expr>, Fault>
-        ensures { Reads (kept_by tree_of) (parts.handle_here self.now.line tokens.old) result tokens.new }
+        ensures { Gives (kept_by tree_of) (spec.a_handle self.now.line tokens.old) result tokens.new }
     {
         tokens.expect_sign(b"@")?;
         let name = Name::of(self.alloc, tokens.take_name()?)?;
@@ -71,7 +70,7 @@ impl<F: Fn(Global, &mut Tokens<'_>, usize, usize, u32) -> Result<Kept<Expr>, Fau
 
     fn in_parentheses(&self, tokens: &mut Tokens<'_>) -> Result<Kept<Expr>, Fault>
         requires { Nests self.now.turns self.now.depth (F.pre self.now.expr) (F.post self.now.expr) }
-        ensures { Reads (kept_by tree_of) (spec.in_parentheses (expr_within self.now.turns self.now.depth) self.now.turns self.now.line tokens.old) result tokens.new }
+        ensures { Gives (kept_by tree_of) (spec.in_parentheses (expr_within self.now.turns self.now.depth) self.now.turns self.now.line tokens.old) result tokens.new }
     {
         let inner = self.expr(tokens)?;
         tokens.expect_sign(b")")?;
@@ -81,7 +80,7 @@ impl<F: Fn(Global, &mut Tokens<'_>, usize, usize, u32) -> Result<Kept<Expr>, Fau
     /// What begins with a sign.
     fn signed_primary(&self, tokens: &mut Tokens<'_>) -> Result<Kept<Expr>, Fault>
         requires { Nests self.now.turns self.now.depth (F.pre self.now.expr) (F.post self.now.expr) }
-        ensures { Reads (kept_by tree_of) (spec.signed_primary (expr_within self.now.turns self.now.depth) self.now.turns self.now.line tokens.old) result tokens.new }
+        ensures { Gives (kept_by tree_of) (spec.signed_primary (expr_within self.now.turns self.now.depth) self.now.turns self.now.line tokens.old) result tokens.new }
     {
         if tokens.is_sign(b"(") {
             tokens.take();
@@ -99,7 +98,7 @@ impl<F: Fn(Global, &mut Tokens<'_>, usize, usize, u32) -> Result<Kept<Expr>, Fau
 
     fn primary(&self, tokens: &mut Tokens<'_>) -> Result<Kept<Expr>, Fault>
         requires { Nests self.now.turns self.now.depth (F.pre self.now.expr) (F.post self.now.expr) }
-        ensures { Reads (kept_by tree_of) (spec.primary (expr_within self.now.turns self.now.depth) self.now.turns self.now.line tokens.old) result tokens.new }
+        ensures { Gives (kept_by tree_of) (spec.primary (expr_within self.now.turns self.now.depth) self.now.turns self.now.line tokens.old) result tokens.new }
     {
         if tokens.is_number() {
             self.number(tokens)
@@ -114,7 +113,7 @@ impl<F: Fn(Global, &mut Tokens<'_>, usize, usize, u32) -> Result<Kept<Expr>, Fau
 
     fn arg(&self, tokens: &mut Tokens<'_>) -> Result<Kept<Arg>, Fault>
         requires { Nests self.now.turns self.now.depth (F.pre self.now.expr) (F.post self.now.expr) }
-        ensures { Reads (kept_by arg_of) (spec.arg (expr_within self.now.turns self.now.depth) self.now.turns self.now.line tokens.old) result tokens.new }
+        ensures { Gives (kept_by arg_of) (spec.arg (expr_within self.now.turns self.now.depth) self.now.turns self.now.line tokens.old) result tokens.new }
     {
         if tokens.is_sign(b":") {
             tokens.take();
@@ -126,7 +125,7 @@ impl<F: Fn(Global, &mut Tokens<'_>, usize, usize, u32) -> Result<Kept<Expr>, Fau
     /// Arguments with a comma between two.
     fn args(&self, tokens: &mut Tokens<'_>) -> Result<Kept<Items<Arg>>, Fault>
         requires { Nests self.now.turns self.now.depth (F.pre self.now.expr) (F.post self.now.expr) }
-        ensures { Reads (kept_by (map arg_of)) (spec.args_from (expr_within self.now.turns self.now.depth) self.now.turns self.now.line self.now.turns no_arguments tokens.old) result tokens.new }
+        ensures { Gives (kept_by (map arg_of)) (spec.args_from (expr_within self.now.turns self.now.depth) self.now.turns self.now.line self.now.turns no_arguments tokens.old) result tokens.new }
     {
         let mut found = kept::no_arguments(self.alloc);
         for _turn in 0..self.turns {
@@ -142,7 +141,7 @@ impl<F: Fn(Global, &mut Tokens<'_>, usize, usize, u32) -> Result<Kept<Expr>, Fau
     /// Arguments behind the parenthesis that opens, with the one that closes.
     fn closed_args(&self, tokens: &mut Tokens<'_>) -> Result<Kept<Items<Arg>>, Fault>
         requires { Nests self.now.turns self.now.depth (F.pre self.now.expr) (F.post self.now.expr) }
-        ensures { Reads (kept_by (map arg_of)) (spec.closed_args (expr_within self.now.turns self.now.depth) self.now.turns self.now.line tokens.old) result tokens.new }
+        ensures { Gives (kept_by (map arg_of)) (spec.closed_args (expr_within self.now.turns self.now.depth) self.now.turns self.now.line tokens.old) result tokens.new }
     {
         if tokens.is_sign(b")") {
             tokens.take();
@@ -155,7 +154,7 @@ impl<F: Fn(Global, &mut Tokens<'_>, usize, usize, u32) -> Result<Kept<Expr>, Fau
 
     /// A member behind its point.
     fn member(&self, tokens: &mut Tokens<'_>, whole: Kept<Expr>) -> Result<Kept<Expr>, Fault>
-        ensures { Reads (kept_by tree_of) (parts.member_here self.now.line (kept_by tree_of whole) tokens.old) result tokens.new }
+        ensures { Gives (kept_by tree_of) (spec.member_step self.now.line (kept_by tree_of whole) tokens.old) result tokens.new }
     {
         let name = Name::of(self.alloc, tokens.take_name()?)?;
         let number = tokens.number()?;
@@ -165,7 +164,7 @@ impl<F: Fn(Global, &mut Tokens<'_>, usize, usize, u32) -> Result<Kept<Expr>, Fau
     /// A call behind its parenthesis.
     fn call(&self, tokens: &mut Tokens<'_>, called: Kept<Expr>) -> Result<Kept<Expr>, Fault>
         requires { Nests self.now.turns self.now.depth (F.pre self.now.expr) (F.post self.now.expr) }
-        ensures { Reads (kept_by tree_of) (parts.call_here (expr_within self.now.turns self.now.depth) self.now.turns self.now.line (kept_by tree_of called) tokens.old) result tokens.new }
+        ensures { Gives (kept_by tree_of) (spec.call_step (expr_within self.now.turns self.now.depth) self.now.turns self.now.line (kept_by tree_of called) tokens.old) result tokens.new }
     {
         let args = self.closed_args(tokens)?;
         let number = tokens.number()?;
@@ -175,7 +174,7 @@ impl<F: Fn(Global, &mut Tokens<'_>, usize, usize, u32) -> Result<Kept<Expr>, Fau
     /// Members and calls behind a primary expression.
     fn post_from(&self, tokens: &mut Tokens<'_>, first: Kept<Expr>) -> Result<Kept<Expr>, Fault>
         requires { Nests self.now.turns self.now.depth (F.pre self.now.expr) (F.post self.now.expr) }
-        ensures { Reads (kept_by tree_of) (spec.post_from (expr_within self.now.turns self.now.depth) self.now.turns self.now.line self.now.turns (kept_by tree_of first) tokens.old) result tokens.new }
+        ensures { Gives (kept_by tree_of) (spec.post_from (expr_within self.now.turns self.now.depth) self.now.turns self.now.line self.now.turns (kept_by tree_of first) tokens.old) result tokens.new }
     {
         let mut whole = first;
         for _turn in 0..self.turns {
@@ -195,7 +194,7 @@ impl<F: Fn(Global, &mut Tokens<'_>, usize, usize, u32) -> Result<Kept<Expr>, Fau
     /// A primary expression with what stands before and behind it.
     fn pre(&self, tokens: &mut Tokens<'_>) -> Result<Kept<Expr>, Fault>
         requires { Nests self.now.turns self.now.depth (F.pre self.now.expr) (F.post self.now.expr) }
-        ensures { Reads (kept_by tree_of) (spec.pre (expr_within self.now.turns self.now.depth) self.now.turns self.now.line tokens.old) result tokens.new }
+        ensures { Gives (kept_by tree_of) (spec.pre (expr_within self.now.turns self.now.depth) self.now.turns self.now.line tokens.old) result tokens.new }
     {
         let signs = signs(self.alloc, tokens, self.turns)?;
         let first = self.primary(tokens)?;
@@ -206,7 +205,7 @@ impl<F: Fn(Global, &mut Tokens<'_>, usize, usize, u32) -> Result<Kept<Expr>, Fau
     /// An expression of a level: 0 has no operators between operands, 5 has all of them.
     fn level(&self, tokens: &mut Tokens<'_>, level: u32) -> Result<Kept<Expr>, Fault>
         requires { Nests self.now.turns self.now.depth (F.pre self.now.expr) (F.post self.now.expr) }
-        ensures { Reads (kept_by tree_of) (spec.level (expr_within self.now.turns self.now.depth) self.now.turns self.now.line level tokens.old) result tokens.new }
+        ensures { Gives (kept_by tree_of) (spec.level (expr_within self.now.turns self.now.depth) self.now.turns self.now.line level tokens.old) result tokens.new }
     {
         if level == 0 {
             return self.pre(tokens);
@@ -218,14 +217,21 @@ impl<F: Fn(Global, &mut Tokens<'_>, usize, usize, u32) -> Result<Kept<Expr>, Fau
             };
             tokens.take();
             let right = self.level(tokens, level - 1)?;
-            let number = tokens.number()?;
-            left = kept::joined(self.alloc, number, self.line, operator, left, right)?;
+            left = kept::joined(
+                self.alloc,
+                tokens.number()?,
+                self.line,
+                operator,
+                left,
+                right,
+            )?;
         }
         Err(Fault::Memory)
     }
 }
 
-/// An expression on a line, of at most so many others inside one another.
+/// An expression on a line, of at most so many others inside one another. `turns` is no fewer than the tokens. Where
+/// either number runs out the answer is `Fault::Memory`.
 pub fn expr(
     alloc: Global,
     tokens: &mut Tokens<'_>,
@@ -233,7 +239,7 @@ pub fn expr(
     depth: usize,
     line: u32,
 ) -> Result<Kept<Expr>, Fault>
-    ensures { Reads (kept_by tree_of) (expr_within turns depth line tokens.old) result tokens.new }
+    ensures { Gives (kept_by tree_of) (expr_within turns depth line tokens.old) result tokens.new }
 {
     if depth == 0 {
         return Err(Fault::Memory);
@@ -248,7 +254,8 @@ pub fn expr(
     .level(tokens, 5)
 }
 
-/// The arguments of a call on a line, behind its parenthesis. Expressions stand at most so many inside one another.
+/// The arguments of a call on a line, behind its parenthesis, with the parenthesis that closes. `turns` and `depth` are
+/// those of `expr`.
 pub fn args(
     alloc: Global,
     tokens: &mut Tokens<'_>,
@@ -256,7 +263,7 @@ pub fn args(
     depth: usize,
     line: u32,
 ) -> Result<Kept<Items<Arg>>, Fault>
-    ensures { Reads (kept_by (map arg_of)) (spec.closed_args (expr_within turns depth) turns line tokens.old) result tokens.new }
+    ensures { Gives (kept_by (map arg_of)) (spec.closed_args (expr_within turns depth) turns line tokens.old) result tokens.new }
 {
     Grammar {
         alloc,

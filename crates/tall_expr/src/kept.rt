@@ -1,13 +1,13 @@
 //! Parts of expressions with their heights. What is higher than it may be is let go, so that nothing high is ever built.
 ghost use Rattle.std.specs.Prelude.{◌≡◌, ◌+◌, map, IfOk};
 ghost use Rattle.tall_grammar.specs.Kept as spec;
-ghost use Rattle.tall_expr.specs.Reads.{kept_by};
+ghost use Rattle.tall_expr.specs.Gives.{kept_by};
 ghost use Rattle.tall_grammar.specs.Views.{tree_of, arg_of};
 
-use tall_grammar::expressions::{Arg, Expr, Infix, Prefix};
 use crate::nodes;
 use sqlite_items::Items;
 use std::alloc::{AllocError, Global};
+use tall_grammar::expressions::{Arg, Expr, Infix, Prefix};
 use tall_value::Name;
 
 /// The greatest height of an expression.
@@ -120,10 +120,7 @@ pub fn value(expr: Kept<Expr>) -> Kept<Arg>
 }
 
 /// The arguments with one more.
-pub fn and_argument(
-    args: Kept<Items<Arg>>,
-    arg: Kept<Arg>,
-) -> Result<Kept<Items<Arg>>, AllocError>
+pub fn and_argument(args: Kept<Items<Arg>>, arg: Kept<Arg>) -> Result<Kept<Items<Arg>>, AllocError>
     ensures { IfOk result (λ xs. kept_by (map arg_of) xs ≡ spec.and_argument (kept_by (map arg_of) args) (kept_by arg_of arg)) }
 {
     let (Some((mut args, args_height)), Some((arg, height))) = (args, arg) else {

@@ -4,9 +4,9 @@
 pub mod cursor;
 pub mod flagged;
 pub mod grammar;
-pub mod kept;
+mod kept;
 mod nodes;
-pub mod operators;
+mod operators;
 mod prefixes;
 mod text_lists;
 mod values;

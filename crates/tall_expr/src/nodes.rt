@@ -4,9 +4,9 @@ ghost use Rattle.tall_grammar.specs.Trees as trees;
 ghost use Rattle.tall_grammar.specs.Trees.{tree};
 ghost use Rattle.tall_grammar.specs.Views.{tree_of, arg_of, trees_of, args_of};
 
-use tall_grammar::expressions::{Arg, Expr, Infix, Node, Prefix};
 use sqlite_items::{Boxed, Items};
 use std::alloc::{AllocError, Global};
+use tall_grammar::expressions::{Arg, Expr, Infix, Node, Prefix};
 use tall_int::Whole;
 use tall_value::{Name, Text};
 

@@ -2,21 +2,21 @@
 ghost use Rattle.std.specs.Prelude.{◌≡◌, map, codes};
 ghost use Rattle.tall_grammar.specs.ExprReader as spec;
 ghost use Rattle.tall_grammar.specs.Readers.{front_is, goes_on_with, is_text_token};
-ghost use Rattle.tall_expr.specs.Reads.{Reads, kept_by};
+ghost use Rattle.tall_expr.specs.Gives.{Gives, kept_by};
 ghost use Rattle.tall_grammar.specs.Views.{tree_of};
 
 use crate::cursor::Tokens;
-use tall_grammar::expressions::Expr;
-use tall_grammar::faults::Fault;
 use crate::kept::Kept;
 use crate::nodes;
 use crate::values::text_value;
 use sqlite_items::Items;
 use std::alloc::Global;
+use tall_grammar::expressions::Expr;
+use tall_grammar::faults::Fault;
 
 /// A text.
 fn text(alloc: Global, tokens: &mut Tokens<'_>, line: u32) -> Result<Expr, Fault>
-    ensures { Reads tree_of (spec.text_here line tokens.old) result tokens.new }
+    ensures { Gives tree_of (spec.text_here line tokens.old) result tokens.new }
 {
     let value = text_value(alloc, tokens.take_text()?)?;
     Ok(nodes::text(tokens.number()?, line, value))
@@ -36,7 +36,7 @@ fn texts(
     turns: usize,
     line: u32,
 ) -> Result<Items<Expr>, Fault>
-    ensures { Reads (map tree_of) (spec.texts turns line tokens.old) result tokens.new }
+    ensures { Gives (map tree_of) (spec.texts turns line tokens.old) result tokens.new }
 {
     let mut found = Items::new(alloc);
     found.push(text(alloc, tokens, line)?)?;
@@ -57,7 +57,7 @@ fn closed(
     line: u32,
     texts: Items<Expr>,
 ) -> Result<Kept<Expr>, Fault>
-    ensures { Reads (kept_by tree_of) (spec.closed_list line bracket.now (map tree_of texts) tokens.old) result tokens.new }
+    ensures { Gives (kept_by tree_of) (spec.closed_list line bracket.now (map tree_of texts) tokens.old) result tokens.new }
 {
     tokens.expect_sign(bracket)?;
     let height = if texts.is_empty() { 1 } else { 2 };
@@ -71,7 +71,7 @@ pub fn in_braces(
     turns: usize,
     line: u32,
 ) -> Result<Kept<Expr>, Fault>
-    ensures { Reads (kept_by tree_of) (spec.list_in_braces turns line tokens.old) result tokens.new }
+    ensures { Gives (kept_by tree_of) (spec.list_in_braces turns line tokens.old) result tokens.new }
 {
     if tokens.is_text() {
         let texts = texts(alloc, tokens, turns, line)?;
@@ -88,7 +88,7 @@ pub fn in_brackets(
     turns: usize,
     line: u32,
 ) -> Result<Kept<Expr>, Fault>
-    ensures { Reads (kept_by tree_of) (spec.list_in_brackets turns line tokens.old) result tokens.new }
+    ensures { Gives (kept_by tree_of) (spec.list_in_brackets turns line tokens.old) result tokens.new }
 {
     let texts = texts(alloc, tokens, turns, line)?;
     closed(tokens, b"]", line, texts)

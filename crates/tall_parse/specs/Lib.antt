@@ -1,1 +1,3 @@
+pub mod FunctionNames
+pub mod ReaderParts
 pub mod StepViews

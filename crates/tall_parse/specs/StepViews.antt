@@ -8,7 +8,7 @@ use Rattle.tall_grammar.specs.declared.steps.FunctionStep.{FunctionStep}
 use Rattle.tall_grammar.specs.declared.steps.Arm.{Arm, fold-Arm}
 use Rattle.tall_grammar.specs.Kept.{with_it}
 use Rattle.tall_grammar.specs.Readers.{Input}
-use Rattle.tall_expr.specs.Reads.{Reads}
+use Rattle.tall_expr.specs.Gives.{Gives}
 use Rattle.tall_grammar.specs.ScriptReader.{steps_within}
 use Rattle.tall_grammar.specs.Trees.{Tree, Step, Steps}
 use Rattle.tall_grammar.specs.Views.{step_of, step_layer, arm_layer}
@@ -20,4 +20,4 @@ pub record NestsBlocks (reading : Reading) (blocks : ℕ) (pre : Reading → Mut
     (post : Reading → MutBor Input → ℕ → Result (Result (List FunctionStep) TooHigh) Fault → MutBor Input → Type 0) : Type 0 where
   pub callable : (old : MutBor Input) → pre reading old blocks
   pub reads : (old new : MutBor Input) (r : Result (Result (List FunctionStep) TooHigh) Fault) → post reading old blocks r new
-      → Reads (with_it (map step_of)) (steps_within reading.turns reading.depth blocks old.now) r new.now
+      → Gives (with_it (map step_of)) (steps_within reading.turns reading.depth blocks old.now) r new.now

@@ -2,20 +2,20 @@
 //! itself.
 ghost use Rattle.std.specs.Prelude.{◌≡◌, map, Ok, []};
 ghost use Rattle.tall_grammar.specs.Kept.{with_it, and_last};
-ghost use Rattle.tall_expr.specs.Reads.{Reads};
+ghost use Rattle.tall_expr.specs.Gives.{Gives};
 ghost use Rattle.tall_grammar.specs.ScriptReader as spec;
 ghost use Rattle.tall_grammar.specs.ScriptReader.{steps_within};
 ghost use Rattle.tall_parse.specs.StepViews.{NestsBlocks, arm_of};
 ghost use Rattle.tall_grammar.specs.Views.{step_of};
 
-use tall_expr::cursor::Tokens;
-use tall_grammar::faults::Fault;
-use tall_expr::flagged::{Flagged, and_last};
-use tall_expr::operators::is;
 use crate::statements::Reading;
 use crate::step_nodes::{added, arm, assigned, chosen, counted, looped};
-use tall_grammar::steps::{Arm, FunctionStep};
 use sqlite_items::Items;
+use tall_expr::cursor::Tokens;
+use tall_expr::flagged::{Flagged, and_last};
+use tall_expr::operators::is;
+use tall_grammar::faults::Fault;
+use tall_grammar::steps::{Arm, FunctionStep};
 use tall_value::Name;
 
 impl Reading {
@@ -26,7 +26,7 @@ impl Reading {
         line: u32,
         name: Name,
     ) -> Result<Flagged<FunctionStep>, Fault>
-        ensures { Reads (with_it step_of) (spec.named_assignment self.now.turns self.now.depth line name tokens.old) result tokens.new }
+        ensures { Gives (with_it step_of) (spec.named_assignment self.now.turns self.now.depth line name tokens.old) result tokens.new }
     {
         tokens.expect_sign(b"=")?;
         let value = self.expr(tokens, line)?;
@@ -35,7 +35,7 @@ impl Reading {
 
     /// A pair that is added, behind the parenthesis that opens.
     fn adding(&self, tokens: &mut Tokens<'_>, line: u32) -> Result<Flagged<FunctionStep>, Fault>
-        ensures { Reads (with_it step_of) (spec.adding self.now.turns self.now.depth line tokens.old) result tokens.new }
+        ensures { Gives (with_it step_of) (spec.adding self.now.turns self.now.depth line tokens.old) result tokens.new }
     {
         let store = self.expr(tokens, line)?;
         tokens.expect_sign(b",")?;
@@ -53,7 +53,7 @@ impl Reading {
         line: u32,
         name: Name,
     ) -> Result<Flagged<FunctionStep>, Fault>
-        ensures { Reads (with_it step_of) (spec.named_step self.now.turns self.now.depth line name tokens.old) result tokens.new }
+        ensures { Gives (with_it step_of) (spec.named_step self.now.turns self.now.depth line name tokens.old) result tokens.new }
     {
         if is(name.as_str().as_bytes(), b"add") && tokens.is_sign(b"(") {
             tokens.take();
@@ -76,7 +76,7 @@ impl<F: Fn(Reading, &mut Tokens<'_>, usize) -> Result<Flagged<Items<FunctionStep
 > {
     fn inner(&self, tokens: &mut Tokens<'_>) -> Result<Flagged<Items<FunctionStep>>, Fault>
         requires { NestsBlocks self.now.reading self.now.blocks (F.pre self.now.steps) (F.post self.now.steps) }
-        ensures { Reads (with_it (map step_of)) (steps_within self.now.reading.turns self.now.reading.depth self.now.blocks tokens.old) result tokens.new }
+        ensures { Gives (with_it (map step_of)) (steps_within self.now.reading.turns self.now.reading.depth self.now.blocks tokens.old) result tokens.new }
     {
         (self.steps)(self.reading, tokens, self.blocks)
     }
@@ -84,7 +84,7 @@ impl<F: Fn(Reading, &mut Tokens<'_>, usize) -> Result<Flagged<Items<FunctionStep
     /// A condition on a line, and what it governs.
     fn arm(&self, tokens: &mut Tokens<'_>, line: u32) -> Result<Flagged<Arm>, Fault>
         requires { NestsBlocks self.now.reading self.now.blocks (F.pre self.now.steps) (F.post self.now.steps) }
-        ensures { Reads (with_it arm_of) (spec.arm self.now.reading.turns self.now.reading.depth (steps_within self.now.reading.turns self.now.reading.depth self.now.blocks) line tokens.old) result tokens.new }
+        ensures { Gives (with_it arm_of) (spec.arm self.now.reading.turns self.now.reading.depth (steps_within self.now.reading.turns self.now.reading.depth self.now.blocks) line tokens.old) result tokens.new }
     {
         let condition = self.reading.expr(tokens, line)?;
         tokens.separators()?;
@@ -99,7 +99,7 @@ impl<F: Fn(Reading, &mut Tokens<'_>, usize) -> Result<Flagged<Items<FunctionStep
         first: Flagged<Arm>,
     ) -> Result<Flagged<Items<Arm>>, Fault>
         requires { NestsBlocks self.now.reading self.now.blocks (F.pre self.now.steps) (F.post self.now.steps) }
-        ensures { Reads (with_it (map arm_of)) (spec.arms_from self.now.reading.turns self.now.reading.depth (steps_within self.now.reading.turns self.now.reading.depth self.now.blocks) self.now.reading.turns (and_last (Ok []) (with_it arm_of first)) tokens.old) result tokens.new }
+        ensures { Gives (with_it (map arm_of)) (spec.arms_from self.now.reading.turns self.now.reading.depth (steps_within self.now.reading.turns self.now.reading.depth self.now.blocks) self.now.reading.turns (and_last (Ok []) (with_it arm_of first)) tokens.old) result tokens.new }
     {
         let mut found = and_last(Ok(Items::new(self.reading.alloc)), first)?;
         for _turn in 0..self.reading.turns {
@@ -115,7 +115,7 @@ impl<F: Fn(Reading, &mut Tokens<'_>, usize) -> Result<Flagged<Items<FunctionStep
     /// What is done where no condition holds.
     fn rest_arm(&self, tokens: &mut Tokens<'_>) -> Result<Flagged<Items<FunctionStep>>, Fault>
         requires { NestsBlocks self.now.reading self.now.blocks (F.pre self.now.steps) (F.post self.now.steps) }
-        ensures { Reads (with_it (map step_of)) (spec.rest_arm self.now.reading.turns self.now.reading.depth (steps_within self.now.reading.turns self.now.reading.depth self.now.blocks) tokens.old) result tokens.new }
+        ensures { Gives (with_it (map step_of)) (spec.rest_arm self.now.reading.turns self.now.reading.depth (steps_within self.now.reading.turns self.now.reading.depth self.now.blocks) tokens.old) result tokens.new }
     {
         if !tokens.is_word(b"else") {
             return Ok(Ok(Items::new(self.reading.alloc)));
@@ -128,7 +128,7 @@ impl<F: Fn(Reading, &mut Tokens<'_>, usize) -> Result<Flagged<Items<FunctionStep
     /// A choice behind its word.
     fn choosing(&self, tokens: &mut Tokens<'_>, line: u32) -> Result<Flagged<FunctionStep>, Fault>
         requires { NestsBlocks self.now.reading self.now.blocks (F.pre self.now.steps) (F.post self.now.steps) }
-        ensures { Reads (with_it step_of) (spec.choosing self.now.reading.turns self.now.reading.depth (steps_within self.now.reading.turns self.now.reading.depth self.now.blocks) line tokens.old) result tokens.new }
+        ensures { Gives (with_it step_of) (spec.choosing self.now.reading.turns self.now.reading.depth (steps_within self.now.reading.turns self.now.reading.depth self.now.blocks) line tokens.old) result tokens.new }
     {
         let first = self.arm(tokens, line)?;
         let arms = self.arms_from(tokens, first)?;
@@ -140,7 +140,7 @@ impl<F: Fn(Reading, &mut Tokens<'_>, usize) -> Result<Flagged<Items<FunctionStep
     /// A loop under a condition, behind its word.
     fn looping(&self, tokens: &mut Tokens<'_>, line: u32) -> Result<Flagged<FunctionStep>, Fault>
         requires { NestsBlocks self.now.reading self.now.blocks (F.pre self.now.steps) (F.post self.now.steps) }
-        ensures { Reads (with_it step_of) (spec.looping self.now.reading.turns self.now.reading.depth (steps_within self.now.reading.turns self.now.reading.depth self.now.blocks) line tokens.old) result tokens.new }
+        ensures { Gives (with_it step_of) (spec.looping self.now.reading.turns self.now.reading.depth (steps_within self.now.reading.turns self.now.reading.depth self.now.blocks) line tokens.old) result tokens.new }
     {
         let arm = self.arm(tokens, line)?;
         tokens.expect_word(b"end")?;
@@ -150,7 +150,7 @@ impl<F: Fn(Reading, &mut Tokens<'_>, usize) -> Result<Flagged<Items<FunctionStep
     /// A loop over numbers, behind its word.
     fn counting(&self, tokens: &mut Tokens<'_>, line: u32) -> Result<Flagged<FunctionStep>, Fault>
         requires { NestsBlocks self.now.reading self.now.blocks (F.pre self.now.steps) (F.post self.now.steps) }
-        ensures { Reads (with_it step_of) (spec.counting self.now.reading.turns self.now.reading.depth (steps_within self.now.reading.turns self.now.reading.depth self.now.blocks) line tokens.old) result tokens.new }
+        ensures { Gives (with_it step_of) (spec.counting self.now.reading.turns self.now.reading.depth (steps_within self.now.reading.turns self.now.reading.depth self.now.blocks) line tokens.old) result tokens.new }
     {
         let name = self.reading.name(tokens)?;
         tokens.expect_sign(b"=")?;
@@ -163,7 +163,7 @@ impl<F: Fn(Reading, &mut Tokens<'_>, usize) -> Result<Flagged<Items<FunctionStep
 
     fn step(&self, tokens: &mut Tokens<'_>, line: u32) -> Result<Flagged<FunctionStep>, Fault>
         requires { NestsBlocks self.now.reading self.now.blocks (F.pre self.now.steps) (F.post self.now.steps) }
-        ensures { Reads (with_it step_of) (spec.step self.now.reading.turns self.now.reading.depth (steps_within self.now.reading.turns self.now.reading.depth self.now.blocks) line tokens.old) result tokens.new }
+        ensures { Gives (with_it step_of) (spec.step self.now.reading.turns self.now.reading.depth (steps_within self.now.reading.turns self.now.reading.depth self.now.blocks) line tokens.old) result tokens.new }
     {
         if tokens.is_name() {
             let name = self.reading.name(tokens)?;
@@ -183,7 +183,7 @@ impl<F: Fn(Reading, &mut Tokens<'_>, usize) -> Result<Flagged<Items<FunctionStep
     /// Statements, each with its separators.
     fn steps(&self, tokens: &mut Tokens<'_>) -> Result<Flagged<Items<FunctionStep>>, Fault>
         requires { NestsBlocks self.now.reading self.now.blocks (F.pre self.now.steps) (F.post self.now.steps) }
-        ensures { Reads (with_it (map step_of)) (spec.steps_from self.now.reading.turns self.now.reading.depth (steps_within self.now.reading.turns self.now.reading.depth self.now.blocks) self.now.reading.turns (Ok []) tokens.old) result tokens.new }
+        ensures { Gives (with_it (map step_of)) (spec.steps_from self.now.reading.turns self.now.reading.depth (steps_within self.now.reading.turns self.now.reading.depth self.now.blocks) self.now.reading.turns (Ok []) tokens.old) result tokens.new }
     {
         let mut found = Ok(Items::new(self.reading.alloc));
         for _turn in 0..self.reading.turns {
@@ -205,7 +205,7 @@ pub fn steps(
     tokens: &mut Tokens<'_>,
     blocks: usize,
 ) -> Result<Flagged<Items<FunctionStep>>, Fault>
-    ensures { Reads (with_it (map step_of)) (steps_within reading.turns reading.depth blocks tokens.old) result tokens.new }
+    ensures { Gives (with_it (map step_of)) (steps_within reading.turns reading.depth blocks tokens.old) result tokens.new }
 {
     if blocks == 0 {
         return Err(Fault::Memory);

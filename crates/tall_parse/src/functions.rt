@@ -1,19 +1,23 @@
 //! Functions, and scripts.
-ghost use Rattle.std.specs.Prelude.{◌≡◌, map, Ok, [], IfOk, option_map, reverse};
+ghost use Rattle.std.specs.Prelude.{◌≡◌, ℕ, List, map, Ok, [], ◌∷◌, IfOk, OnOk};
 ghost use Rattle.tall_grammar.specs.Kept.{with_it, with_both};
-ghost use Rattle.tall_expr.specs.ReaderParts.{and_parameter};
-ghost use Rattle.tall_expr.specs.Reads.{Reads, itself};
+ghost use Rattle.tall_parse.specs.ReaderParts.{and_parameter};
+ghost use Rattle.tall_expr.specs.Gives.{Gives, itself};
+ghost use Rattle.tall_parse.specs.FunctionNames.{Holds, texts_of};
+ghost use Rattle.tall_grammar.specs.Readers.{take_as};
 ghost use Rattle.tall_grammar.specs.ScriptReader as spec;
 ghost use Rattle.tall_grammar.specs.Views.{step_of, entry_of, routine_of, program_of};
 
-use tall_expr::cursor::Tokens;
-use tall_grammar::faults::Fault;
-use tall_expr::flagged::{Flagged, and_last};
 use crate::function_steps;
-use tall_grammar::scripts::{Function, Script, Statement};
 use crate::statements::Reading;
-use tall_grammar::steps::FunctionStep;
 use sqlite_items::Items;
+use std::alloc::{AllocError, Global};
+use std::collections::BTreeSet;
+use tall_expr::cursor::Tokens;
+use tall_expr::flagged::{Flagged, and_last};
+use tall_grammar::faults::Fault;
+use tall_grammar::scripts::{Function, Script, Statement};
+use tall_grammar::steps::FunctionStep;
 use tall_value::Name;
 
 /// A function of these parts.
@@ -53,10 +57,19 @@ fn script(
     }
 }
 
+/// Adds a name.
+fn add_name(alloc: Global, names: &mut BTreeSet<String>, name: &str) -> Result<(), AllocError>
+    ensures { OnOk result (Holds names.new (name.now ∷ texts_of names.old)) }
+{
+    let key = String::from_str(alloc, name)?;
+    names.insert(key)?;
+    Ok(())
+}
+
 impl Reading {
     /// A parameter: its name, or none where it is `~`.
     fn parameter(&self, tokens: &mut Tokens<'_>) -> Result<Option<Name>, Fault>
-        ensures { Reads itself (spec.parameter tokens.old) result tokens.new }
+        ensures { Gives itself (spec.parameter tokens.old) result tokens.new }
     {
         if tokens.is_name() {
             return Ok(Some(self.name(tokens)?));
@@ -72,7 +85,7 @@ impl Reading {
         sign: &[u8],
         params: &mut Items<Option<Name>>,
     ) -> Result<(), Fault>
-        ensures { Reads (λ _. params.new) (and_parameter sign.now params.old tokens.old) result tokens.new }
+        ensures { Gives (λ _. params.new) (and_parameter sign.now params.old tokens.old) result tokens.new }
     {
         let param = self.parameter(tokens)?;
         tokens.expect_sign(sign)?;
@@ -82,7 +95,7 @@ impl Reading {
 
     /// The three parameters in their parentheses.
     fn parameters(&self, tokens: &mut Tokens<'_>) -> Result<Items<Option<Name>>, Fault>
-        ensures { Reads itself (spec.parameters tokens.old) result tokens.new }
+        ensures { Gives itself (spec.parameters tokens.old) result tokens.new }
     {
         let mut params = Items::new(self.alloc);
         tokens.expect_sign(b"(")?;
@@ -99,7 +112,7 @@ impl Reading {
         line: u32,
         name: Name,
     ) -> Result<Flagged<Function>, Fault>
-        ensures { Reads (with_it routine_of) (spec.function_rest self.now.turns self.now.depth line name tokens.old) result tokens.new }
+        ensures { Gives (with_it routine_of) (spec.function_rest self.now.turns self.now.depth line name tokens.old) result tokens.new }
     {
         let params = self.parameters(tokens)?;
         tokens.separators()?;
@@ -109,11 +122,25 @@ impl Reading {
         Ok(function(line, name, params, body))
     }
 
+    /// Takes the name of a function, which none before has, and adds it to theirs.
+    fn new_name(
+        &self,
+        tokens: &mut Tokens<'_>,
+        before: &mut BTreeSet<String>,
+    ) -> Result<Name, Fault>
+        ensures taken { (names : List (List ℕ)) → Holds before.old names → Gives itself (take_as (spec.new_name names) tokens.old) result tokens.new }
+        ensures added { IfOk result (λ name. (names : List (List ℕ)) → Holds before.old names → Holds before.new (name ∷ names)) }
+    {
+        let text = tokens.take_new_name(before)?;
+        add_name(self.alloc, before, text)?;
+        Ok(Name::of(self.alloc, text)?)
+    }
+
     /// The functions up to the end of the text, each with a name of its own.
     fn functions(&self, tokens: &mut Tokens<'_>) -> Result<Flagged<Items<Function>>, Fault>
-        ensures { Reads (with_it (map routine_of)) (spec.functions_from self.now.turns self.now.depth self.now.turns [] (Ok []) tokens.old) result tokens.new }
+        ensures { Gives (with_it (map routine_of)) (spec.functions_from self.now.turns self.now.depth self.now.turns [] (Ok []) tokens.old) result tokens.new }
     {
-        let mut before = Items::new(self.alloc);
+        let mut before = BTreeSet::new(self.alloc);
         let mut found = Ok(Items::new(self.alloc));
         for _turn in 0..self.turns {
             if tokens.is_at_end() {
@@ -121,9 +148,8 @@ impl Reading {
             }
             let line = tokens.line();
             tokens.expect_word(b"function")?;
-            let text = tokens.take_new_name(before.as_slice())?;
-            before.push(Name::of(self.alloc, text)?)?;
-            let next = self.function_rest(tokens, line, Name::of(self.alloc, text)?)?;
+            let name = self.new_name(tokens, &mut before)?;
+            let next = self.function_rest(tokens, line, name)?;
             found = and_last(found, next)?;
         }
         Err(Fault::Memory)
@@ -131,7 +157,7 @@ impl Reading {
 
     /// A script.
     pub fn script(&self, tokens: &mut Tokens<'_>) -> Result<Flagged<Script>, Fault>
-        ensures { Reads (with_it program_of) (spec.program self.now.turns self.now.depth tokens.old) result tokens.new }
+        ensures { Gives (with_it program_of) (spec.program self.now.turns self.now.depth tokens.old) result tokens.new }
     {
         tokens.skip_separators();
         let statements = self.statements(tokens)?;

@@ -1,20 +1,20 @@
 //! The statements of a script.
 ghost use Rattle.std.specs.Prelude.{◌≡◌, map, Ok, []};
 ghost use Rattle.tall_grammar.specs.Kept.{with_it};
-ghost use Rattle.tall_expr.specs.ReaderParts.{args_on};
+ghost use Rattle.tall_parse.specs.ReaderParts.{args_on};
 ghost use Rattle.tall_grammar.specs.Readers.{take_text, is_name};
-ghost use Rattle.tall_expr.specs.Reads.{Reads, itself};
+ghost use Rattle.tall_expr.specs.Gives.{Gives, itself};
 ghost use Rattle.tall_grammar.specs.ScriptReader as spec;
 ghost use Rattle.tall_grammar.specs.Views.{tree_of, arg_of, body_of, entry_of};
 
-use tall_expr::cursor::Tokens;
-use tall_grammar::expressions::{Arg, Expr};
-use tall_grammar::faults::Fault;
-use tall_expr::flagged::{Flagged, and_last, settled};
-use tall_expr::grammar;
-use tall_grammar::scripts::{Form, Statement};
 use sqlite_items::Items;
 use std::alloc::Global;
+use tall_expr::cursor::Tokens;
+use tall_expr::flagged::{Flagged, and_last, settled};
+use tall_expr::grammar;
+use tall_grammar::expressions::{Arg, Expr};
+use tall_grammar::faults::Fault;
+use tall_grammar::scripts::{Form, Statement};
 use tall_value::Name;
 
 /// What the readers of a script want.
@@ -30,7 +30,7 @@ pub struct Reading {
 impl Reading {
     /// An expression on a line.
     pub fn expr(&self, tokens: &mut Tokens<'_>, line: u32) -> Result<Flagged<Expr>, Fault>
-        ensures { Reads (with_it tree_of) (spec.expr_on self.now.turns self.now.depth line tokens.old) result tokens.new }
+        ensures { Gives (with_it tree_of) (spec.expr_on self.now.turns self.now.depth line tokens.old) result tokens.new }
     {
         let kept = grammar::expr(self.alloc, tokens, self.turns, self.depth, line)?;
         Ok(settled(line, kept))
@@ -38,21 +38,21 @@ impl Reading {
 
     /// The arguments of a call, behind its parenthesis.
     fn args(&self, tokens: &mut Tokens<'_>, line: u32) -> Result<Flagged<Items<Arg>>, Fault>
-        ensures { Reads (with_it (map arg_of)) (args_on self.now.turns self.now.depth line tokens.old) result tokens.new }
+        ensures { Gives (with_it (map arg_of)) (args_on self.now.turns self.now.depth line tokens.old) result tokens.new }
     {
         let kept = grammar::args(self.alloc, tokens, self.turns, self.depth, line)?;
         Ok(settled(line, kept))
     }
 
     pub fn name(&self, tokens: &mut Tokens<'_>) -> Result<Name, Fault>
-        ensures { Reads itself (take_text is_name tokens.old) result tokens.new }
+        ensures { Gives itself (take_text is_name tokens.old) result tokens.new }
     {
         Ok(Name::of(self.alloc, tokens.take_name()?)?)
     }
 
     /// Names, with a comma or without one between two.
     fn names(&self, tokens: &mut Tokens<'_>) -> Result<Items<Name>, Fault>
-        ensures { Reads itself (spec.names self.now.turns self.now.depth tokens.old) result tokens.new }
+        ensures { Gives itself (spec.names self.now.turns self.now.depth tokens.old) result tokens.new }
     {
         let mut found = Items::new(self.alloc);
         found.push(self.name(tokens)?)?;
@@ -67,7 +67,7 @@ impl Reading {
     }
 
     fn assignment(&self, tokens: &mut Tokens<'_>, line: u32) -> Result<Flagged<Form>, Fault>
-        ensures { Reads (with_it body_of) (spec.assignment self.now.turns self.now.depth line tokens.old) result tokens.new }
+        ensures { Gives (with_it body_of) (spec.assignment self.now.turns self.now.depth line tokens.old) result tokens.new }
     {
         let name = self.name(tokens)?;
         tokens.expect_sign(b"=")?;
@@ -78,7 +78,7 @@ impl Reading {
     }
 
     fn property_setting(&self, tokens: &mut Tokens<'_>, line: u32) -> Result<Flagged<Form>, Fault>
-        ensures { Reads (with_it body_of) (spec.property_setting self.now.turns self.now.depth line tokens.old) result tokens.new }
+        ensures { Gives (with_it body_of) (spec.property_setting self.now.turns self.now.depth line tokens.old) result tokens.new }
     {
         let name = self.name(tokens)?;
         tokens.expect_sign(b".")?;
@@ -95,7 +95,7 @@ impl Reading {
     }
 
     fn gathering(&self, tokens: &mut Tokens<'_>, line: u32) -> Result<Flagged<Form>, Fault>
-        ensures { Reads (with_it body_of) (spec.gathering self.now.turns self.now.depth line tokens.old) result tokens.new }
+        ensures { Gives (with_it body_of) (spec.gathering self.now.turns self.now.depth line tokens.old) result tokens.new }
     {
         tokens.expect_sign(b"[")?;
         let names = self.names(tokens)?;
@@ -110,7 +110,7 @@ impl Reading {
     }
 
     fn bare_expression(&self, tokens: &mut Tokens<'_>, line: u32) -> Result<Flagged<Form>, Fault>
-        ensures { Reads (with_it body_of) (spec.bare_expression self.now.turns self.now.depth line tokens.old) result tokens.new }
+        ensures { Gives (with_it body_of) (spec.bare_expression self.now.turns self.now.depth line tokens.old) result tokens.new }
     {
         match self.expr(tokens, line)? {
             Ok(value) => Ok(Ok(Form::Bare(value))),
@@ -119,7 +119,7 @@ impl Reading {
     }
 
     fn form(&self, tokens: &mut Tokens<'_>, line: u32) -> Result<Flagged<Form>, Fault>
-        ensures { Reads (with_it body_of) (spec.body self.now.turns self.now.depth line tokens.old) result tokens.new }
+        ensures { Gives (with_it body_of) (spec.body self.now.turns self.now.depth line tokens.old) result tokens.new }
     {
         if tokens.begins_assignment() {
             self.assignment(tokens, line)
@@ -133,7 +133,7 @@ impl Reading {
     }
 
     fn statement(&self, tokens: &mut Tokens<'_>) -> Result<Flagged<Statement>, Fault>
-        ensures { Reads (with_it entry_of) (spec.on_line (spec.statement self.now.turns self.now.depth) tokens.old) result tokens.new }
+        ensures { Gives (with_it entry_of) (spec.on_line (spec.statement self.now.turns self.now.depth) tokens.old) result tokens.new }
     {
         let line = tokens.line();
         let form = self.form(tokens, line)?;
@@ -145,11 +145,8 @@ impl Reading {
     }
 
     /// The statements up to the first function, or to the end of the text.
-    pub fn statements(
-        &self,
-        tokens: &mut Tokens<'_>,
-    ) -> Result<Flagged<Items<Statement>>, Fault>
-        ensures { Reads (with_it (map entry_of)) (spec.statements_from self.now.turns self.now.depth self.now.turns (Ok []) tokens.old) result tokens.new }
+    pub fn statements(&self, tokens: &mut Tokens<'_>) -> Result<Flagged<Items<Statement>>, Fault>
+        ensures { Gives (with_it (map entry_of)) (spec.statements_from self.now.turns self.now.depth self.now.turns (Ok []) tokens.old) result tokens.new }
     {
         let mut found = Ok(Items::new(self.alloc));
         for _turn in 0..self.turns {

@@ -5,10 +5,10 @@ ghost use Rattle.tall_parse.specs.StepViews.{arm_of};
 ghost use Rattle.tall_grammar.specs.Trees.{assign_step, add_step, if_step, while_step, for_step};
 ghost use Rattle.tall_grammar.specs.Views.{tree_of, step_of, steps_of, arms_of};
 
-use tall_grammar::expressions::Expr;
-use tall_expr::flagged::Flagged;
-use tall_grammar::steps::{Arm, FunctionStep};
 use sqlite_items::Items;
+use tall_expr::flagged::Flagged;
+use tall_grammar::expressions::Expr;
+use tall_grammar::steps::{Arm, FunctionStep};
 use tall_value::Name;
 
 fn assign_step(line: u32, name: Name, value: Expr) -> FunctionStep

@@ -1,6 +1,6 @@
 use Rattle.std.proofs.Common.{◌≡◌, reverse, length}
 use Rattle.tall_grammar.specs.ExprReader.{signed}
-use Rattle.tall_expr.specs.Reads.{kept_by}
+use Rattle.tall_expr.specs.Gives.{kept_by}
 use Rattle.tall_grammar.specs.Views.{tree_of}
 use Rattle.tall_expr.proofs.prefixes.signed.Given as goal
 

@@ -1,4 +1,4 @@
-use Rattle.std.proofs.Common.{rules, arith, reverse, []}
+use Rattle.std.proofs.Common.{rules, arith, reverse}
 use Rattle.std.proofs.lemmas.Grind.{common_steps}
 use Rattle.std.proofs.lemmas.List.{reverse-append}
 use Rattle.tall_grammar.specs.ExprReader.{signs_from}

@@ -1,7 +1,7 @@
 use Rattle.std.proofs.Common.{◌≡◌, ◌-◌, ap, rules, arith}
 use Rattle.std.proofs.lemmas.Grind.{common_steps}
 use Rattle.tall_grammar.specs.ExprReader.{expr_within, level, chain_from, operators}
-use Rattle.tall_expr.specs.Reads.{kept_by}
+use Rattle.tall_expr.specs.Gives.{kept_by}
 use Rattle.tall_grammar.specs.Views.{tree_of}
 use Rattle.tall_expr.proofs.Turns.{one_more, deeper}
 use Rattle.tall_expr.proofs.grammar.Grammar.+level.Goals as goal

@@ -1,6 +1,6 @@
 use Rattle.std.proofs.Common.{◌≡◌, ◌-◌}
 use Rattle.tall_grammar.specs.ExprReader.{expr_within, level, chain_from, operators}
-use Rattle.tall_expr.specs.Reads.{kept_by}
+use Rattle.tall_expr.specs.Gives.{kept_by}
 use Rattle.tall_grammar.specs.Views.{tree_of}
 use Rattle.tall_expr.proofs.grammar.Grammar.+level.Given as goal
 

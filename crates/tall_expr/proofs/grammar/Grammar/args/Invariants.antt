@@ -1,7 +1,7 @@
 use Rattle.std.proofs.Common.{◌≡◌, ◌-◌, map}
 use Rattle.tall_grammar.specs.ExprReader.{expr_within, args_from}
 use Rattle.tall_grammar.specs.Kept.{no_arguments}
-use Rattle.tall_expr.specs.Reads.{kept_by}
+use Rattle.tall_expr.specs.Gives.{kept_by}
 use Rattle.tall_grammar.specs.Views.{arg_of}
 use Rattle.tall_expr.proofs.grammar.Grammar.args.Given as goal
 

@@ -1,9 +1,8 @@
-use Rattle.std.proofs.Common.{rules, arith, map}
+use Rattle.std.proofs.Common.{rules, arith}
 use Rattle.std.proofs.lemmas.Grind.{common_steps}
 use Rattle.tall_grammar.specs.ExprReader.{expr_within, post_from}
-use Rattle.tall_grammar.specs.Kept.{no_arguments}
-use Rattle.tall_expr.specs.Reads.{kept_by}
-use Rattle.tall_grammar.specs.Views.{tree_of, arg_of}
+use Rattle.tall_expr.specs.Gives.{kept_by}
+use Rattle.tall_grammar.specs.Views.{tree_of}
 use Rattle.tall_expr.proofs.Turns.{one_more}
 use Rattle.tall_expr.proofs.grammar.Grammar.post_from.Goals as goal
 

@@ -1,7 +1,5 @@
-use Rattle.std.proofs.Common.{rules, arith, map}
+use Rattle.std.proofs.Common.{rules, arith, map, refl, []}
 use Rattle.std.proofs.lemmas.Grind.{common_steps}
-use Rattle.std.proofs.Common.{reverse}
-use Rattle.std.proofs.lemmas.List.{reverse-append}
 use Rattle.tall_grammar.specs.Kept.{with_it}
 use Rattle.tall_grammar.specs.ScriptReader.{functions_from}
 use Rattle.tall_grammar.specs.Views.{routine_of}
@@ -11,30 +9,38 @@ use Rattle.tall_parse.proofs.statements.Reading.functions.Goals as goal
 pub returns-then-is_at_end : goal.returns-then-is_at_end
 unfolding functions_from
 returns-then-is_at_end c =
-    let e = one_more (λ n. functions_from c.args.self.now.turns c.args.self.now.depth n (reverse c.loop-turn.before) (with_it (map routine_of) c.loop-turn.found) c.loop-turn.tokens) _ c.loop-turn._turn c.loop-turn-test.true c.loop-turn.invariant in
+    let held = c.loop-turn.invariant.1 in
+    let e = one_more (λ n. functions_from c.args.self.now.turns c.args.self.now.depth n c.loop-turn.invariant.0 (with_it (map routine_of) c.loop-turn.found) c.loop-turn.tokens) _ c.loop-turn._turn c.loop-turn-test.true c.loop-turn.invariant.2 in
     first_of (search rules, grind (arith, common_steps))
 
 pub returns-in_err-expect_word : goal.returns-in_err-expect_word
 unfolding functions_from
 returns-in_err-expect_word c =
-    let e = one_more (λ n. functions_from c.args.self.now.turns c.args.self.now.depth n (reverse c.loop-turn.before) (with_it (map routine_of) c.loop-turn.found) c.loop-turn.tokens) _ c.loop-turn._turn c.loop-turn-test.true c.loop-turn.invariant in
+    let held = c.loop-turn.invariant.1 in
+    let e = one_more (λ n. functions_from c.args.self.now.turns c.args.self.now.depth n c.loop-turn.invariant.0 (with_it (map routine_of) c.loop-turn.found) c.loop-turn.tokens) _ c.loop-turn._turn c.loop-turn-test.true c.loop-turn.invariant.2 in
     first_of (search rules, grind (arith, common_steps))
 
-pub returns-in_err-text : goal.returns-in_err-text
+pub returns-in_err-name : goal.returns-in_err-name
 unfolding functions_from
-returns-in_err-text c =
-    let e = one_more (λ n. functions_from c.args.self.now.turns c.args.self.now.depth n (reverse c.loop-turn.before) (with_it (map routine_of) c.loop-turn.found) c.loop-turn.tokens) _ c.loop-turn._turn c.loop-turn-test.true c.loop-turn.invariant in
+returns-in_err-name c =
+    let held = c.loop-turn.invariant.1 in
+    let e = one_more (λ n. functions_from c.args.self.now.turns c.args.self.now.depth n c.loop-turn.invariant.0 (with_it (map routine_of) c.loop-turn.found) c.loop-turn.tokens) _ c.loop-turn._turn c.loop-turn-test.true c.loop-turn.invariant.2 in
+    let taken = c.new_name-name.ensures.taken c.loop-turn.invariant.0 held in
     first_of (search rules, grind (arith, common_steps))
 
 pub returns-in_err-next : goal.returns-in_err-next
 unfolding functions_from
 returns-in_err-next c =
-    let e = one_more (λ n. functions_from c.args.self.now.turns c.args.self.now.depth n (reverse c.loop-turn.before) (with_it (map routine_of) c.loop-turn.found) c.loop-turn.tokens) _ c.loop-turn._turn c.loop-turn-test.true c.loop-turn.invariant in
+    let held = c.loop-turn.invariant.1 in
+    let e = one_more (λ n. functions_from c.args.self.now.turns c.args.self.now.depth n c.loop-turn.invariant.0 (with_it (map routine_of) c.loop-turn.found) c.loop-turn.tokens) _ c.loop-turn._turn c.loop-turn-test.true c.loop-turn.invariant.2 in
+    let taken = c.new_name-name.ensures.taken c.loop-turn.invariant.0 held in
     first_of (search rules, grind (arith, common_steps))
 
 pub loop-turn-preserved : goal.loop-turn-preserved
 unfolding functions_from
 loop-turn-preserved c =
-    let e = one_more (λ n. functions_from c.args.self.now.turns c.args.self.now.depth n (reverse c.loop-turn.before) (with_it (map routine_of) c.loop-turn.found) c.loop-turn.tokens) _ c.loop-turn._turn c.loop-turn-test.true c.loop-turn.invariant in
+    let held = c.loop-turn.invariant.1 in
+    let e = one_more (λ n. functions_from c.args.self.now.turns c.args.self.now.depth n c.loop-turn.invariant.0 (with_it (map routine_of) c.loop-turn.found) c.loop-turn.tokens) _ c.loop-turn._turn c.loop-turn-test.true c.loop-turn.invariant.2 in
+    let taken = c.new_name-name.ensures.taken c.loop-turn.invariant.0 held in
     let l = with_last routine_of c.loop-turn.found c.in_ok-next.next in
-    first_of (search (rules, reverse-append), grind (arith, common_steps, reverse-append))
+    (c.in_ok-name.name ∷ c.loop-turn.invariant.0, search rules, first_of (search rules, grind (arith, common_steps)))

@@ -10,9 +10,9 @@ use Rattle.tall_grammar.specs.Readers.{Input, Outcome, is_name_kind, is_text_kin
 use Rattle.tall_grammar.specs.Kept.{Kept}
 
 -- a part is seen through `view`
-abbrev pub Reads : {A B : Type 0} → (A → B) → Outcome B → Result A Fault → Input → Type 0
-Reads view outcome (Ok a) new = outcome ≡ Ok (view a, new)
-Reads view outcome (Err e) new = e ≢ Memory → outcome ≡ Err e
+abbrev pub Gives : {A B : Type 0} → (A → B) → Outcome B → Result A Fault → Input → Type 0
+Gives view outcome (Ok a) new = outcome ≡ Ok (view a, new)
+Gives view outcome (Err e) new = e ≢ Memory → outcome ≡ Err e
 
 -- a part is seen as it is
 abbrev pub itself : {A : Type 0} → A → A
