@@ -1,1 +1,5 @@
 pub mod NewNames
+pub mod Cuts
+pub mod Depths
+pub mod Lines
+pub mod Spans

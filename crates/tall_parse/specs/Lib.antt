@@ -1,3 +1,4 @@
 pub mod FunctionNames
 pub mod ReaderParts
+pub mod Parsed
 pub mod StepViews

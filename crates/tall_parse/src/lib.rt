@@ -1,7 +1,12 @@
 //! The parser of scripts.
 #![tactic(auto)]
 
+mod depth;
 mod function_steps;
 mod functions;
+mod parser;
+mod places;
 mod statements;
 mod step_nodes;
+
+pub use parser::parse;
