@@ -7,7 +7,7 @@ use Rattle.std.proofs.lemmas.List.{drop_more}
 use Rattle.std.proofs.lemmas.List.Elements.{All-from_recursion}
 use Rattle.std.proofs.Math.ListN.{drop_of_length-le}
 use Rattle.tall_lex.specs.declared.tokens.Token.{Token}
-use Rattle.tall_expr.specs.Reads.{IsSlice}
+use Rattle.tall_expr.specs.Gives.{IsSlice}
 use Rattle.tall_grammar.specs.Lexemes.{lexeme_of, lexemes_of}
 use Rattle.tall_grammar.specs.Refusals.{limit, open_behind, too_deep_from}
 

@@ -18,7 +18,7 @@ use Rattle.tall_lex.specs.Tokens.{tokens_of_bytes}
 use Rattle.tall_lex.proofs.ByteScripts.{bytes_are}
 use Rattle.tall_grammar.specs.Lexemes.{all_but_last, text_value, without_doubles}
 use Rattle.tall_grammar.specs.Readers.{is_name_kind, is_text_kind}
-use Rattle.tall_expr.specs.Reads.{IsSlice}
+use Rattle.tall_expr.specs.Gives.{IsSlice}
 use Rattle.tall_parse.proofs.Cuts.{before_ascii, behind_ascii, text_once}
 
 -- ---- names

@@ -1,7 +1,7 @@
 //! How deep brackets and blocks stand in one another.
 ghost use Rattle.std.specs.Prelude.{◌≡◌, ◌≤◌};
 ghost use Rattle.std.specs.List.{AllByRecursion};
-ghost use Rattle.tall_expr.specs.Reads.{IsSlice};
+ghost use Rattle.tall_expr.specs.Gives.{IsSlice};
 ghost use Rattle.tall_grammar.specs.Lexemes.{lexeme_of, lexemes_of};
 ghost use Rattle.tall_grammar.specs.Refusals.{closes, limit, open_behind, opens, too_deep};
 

@@ -1,7 +1,7 @@
 //! From the bytes of a script to the script.
 ghost use Rattle.std.specs.Prelude.{◌≡◌, ◌≤◌, ◌+◌, length, IfSome, Some};
 ghost use Rattle.std.specs.List.{AllByRecursion};
-ghost use Rattle.tall_expr.specs.Reads.{IsSlice};
+ghost use Rattle.tall_expr.specs.Gives.{IsSlice};
 ghost use Rattle.tall_grammar.specs.Lexemes.{lexemes_of};
 ghost use Rattle.tall_grammar.specs.Readers.{input};
 ghost use Rattle.tall_grammar.specs.Refusals.{Answer, Parses, Reads, last_line, longest};

@@ -1,6 +1,6 @@
 //! Tokens in their text, and lines.
 ghost use Rattle.std.specs.Prelude.{◌≡◌, ◌≤◌, ◌-◌, length, drop};
-ghost use Rattle.tall_expr.specs.Reads.{IsSlice};
+ghost use Rattle.tall_expr.specs.Gives.{IsSlice};
 ghost use Rattle.tall_grammar.specs.Lexemes.{lexemes_of};
 ghost use Rattle.tall_grammar.specs.Refusals.{last_line, longest};
 ghost use Rattle.tall_grammar.specs.Verdicts.{line_from};
