@@ -165,7 +165,7 @@ module _ (k d : ℕ) (deep : limit < d) where
 
     any_choosing : (l b : ℕ) → b ≤ k → Lasts b (o + 1) b o (choosing k d steps l)
     any_choosing l b small =
-        lasts_bind (arm k d steps l) _ (any_arm l b small) (λ a. lasts_bind (arms_from k d steps k (and_last (Ok []) a)) _ (lasts_arms k b small small (and_last (Ok []) a))
+        lasts_bind (arm k d steps l) _ (any_arm l b small) (λ a. lasts_bind (arms_from k d steps _ (and_last (Ok []) a)) _ (lasts_arms _ b (omega (arith, small)) small (and_last (Ok []) a))
         (λ arms. lasts_bind (rest_arm k d steps) _ (any_rest b small) (λ x. lasts_bind (expect_word (codes "end")) _ (any_end o b) (λ _. lasts_pure _))))
 
     any_looping : (l b : ℕ) → b ≤ k → Lasts b (o + 1) b o (looping k d steps l)

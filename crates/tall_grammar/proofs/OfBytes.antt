@@ -50,5 +50,5 @@ verdict_tells k d bytes a q = by (nat_lt longest (length bytes)) (Decides-ltb lo
   where
     by : (b : Bool) → Decides b (longest < length bytes) → b ≡ nat_lt longest (length bytes)
         → (if b then Some too_long else tokens_said k d bytes (tokens_of_bytes bytes)) ≡ Some a → Parses bytes a
-    by true t e r = subst (Parses bytes) (same_answer too_long a r) (is_too_long (t.0 refl))
+    by true t e r = let long = t.0 refl in subst (Parses bytes) (same_answer too_long a r) (is_too_long (omega (arith, long)))
     by false t e r = tokens_tell k d bytes a (not_long bytes (λ l. false≢true (t.1 l))) (tokens_of_bytes bytes) refl r
