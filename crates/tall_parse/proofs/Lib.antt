@@ -3,3 +3,4 @@ pub mod Cuts
 pub mod Depths
 pub mod Lines
 pub mod Spans
+pub mod Told

@@ -1,12 +1,12 @@
 -- Lines of a text and of its tokens.
-use Rattle.std.proofs.Common.{◌≡◌, ◌<◌, ◌≤◌, ◌+◌, ◌-◌, ℕ, List, [], ◌∷◌, length, map, drop, get_or, refl, sym, ap, ◌∙◌, subst}
+use Rattle.std.proofs.Common.{◌≡◌, ◌<◌, ◌≤◌, ◌+◌, ℕ, List, [], ◌∷◌, length, map, drop, get_or, sym, ap, ◌∙◌, subst}
 use Rattle.std.specs.Prelude.{◌==◌}
 use Rattle.std.specs.List.{count_by}
 use Rattle.std.proofs.lemmas.List.{drop-map, drop_more, length-map}
 use Rattle.std.proofs.Math.ListN.{drop_of_length-le}
 use Rattle.tall_lex.specs.declared.tokens.Token.{Token}
 use Rattle.tall_lex.proofs.SpotsBehind.{past_behind}
-use Rattle.tall_grammar.specs.Lexemes.{Lexeme, lexeme_of, lexemes_of}
+use Rattle.tall_grammar.specs.Lexemes.{lexeme_of, lexemes_of}
 use Rattle.tall_grammar.specs.Refusals.{last_line}
 use Rattle.tall_grammar.specs.Verdicts.{line_from}
 

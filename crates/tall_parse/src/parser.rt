@@ -46,6 +46,7 @@ fn read(alloc: Global, text: &[u8], tokens: &[Token]) -> Result<Script, ParseFau
 }
 
 /// The script that tokens are, or their first refusal.
+#[tactic(auto, using(crate::proofs::Told::deep_sound, crate::proofs::Told::deep_complete))]
 fn parse_tokens(alloc: Global, text: &[u8], tokens: &[Token]) -> Result<Script, ParseFault>
     requires short { length text.now ≤ longest }
     requires slices { AllByRecursion (IsSlice text.now) tokens.now }
@@ -66,6 +67,7 @@ fn parse_tokens(alloc: Global, text: &[u8], tokens: &[Token]) -> Result<Script, 
 /// `TooDeep` at the first token behind which more than 64 brackets and blocks are open; `Syntax` at the first token with
 /// which no script goes on, or in the last line where the text ends too early; `TooDeep` at the first expression of a
 /// height above 64. `Memory` for want of memory.
+#[tactic(auto, using(crate::proofs::Told::long_sound, crate::proofs::Told::long_complete, crate::proofs::Told::bad_sound, crate::proofs::Told::bad_complete, crate::proofs::Told::tokens_sound, crate::proofs::Told::tokens_complete, crate::proofs::Spans::are_slices))]
 pub fn parse(alloc: Global, text: &[u8]) -> Result<Script, ParseFault>
     ensures sound { IfSome (seen result) (Parses text.now) }
     ensures complete { (answer : Answer) → Parses text.now answer → IfSome (seen result) (λ found. found ≡ answer) }
