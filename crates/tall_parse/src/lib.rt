@@ -10,3 +10,6 @@ mod statements;
 mod step_nodes;
 
 pub use parser::parse;
+
+#[cfg(test)]
+mod tests;
