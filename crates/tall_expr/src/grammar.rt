@@ -19,6 +19,7 @@ use tall_grammar::expressions::{Arg, Expr};
 use tall_grammar::faults::Fault;
 use tall_value::Name;
 
+/// How expressions are read.
 #[derive(Clone, Copy)]
 struct Grammar<F> {
     alloc: Global,
@@ -28,6 +29,7 @@ struct Grammar<F> {
     depth: usize,
     /// The line of the expressions.
     line: u32,
+    /// What reads an expression inside.
     expr: F,
 }
 

@@ -1,6 +1,6 @@
 -- The names of functions in a set, beside those in the list of the reader.
 use Rattle.std.proofs.Common.{◌≡◌, refl, ◌∙◌, sym, ap, ℕ, List, [], ◌∷◌, Bool, true, false, cond, ◌&&◌, ◌||◌, not, if◌then◌else◌, String, string_bytes, Some, None}
-use Rattle.std.specs.BTreeSet.{BTreeSet, UpdatesBy}
+use Rattle.std.specs.BTreeSet.{BTreeSet, UpdatesBy, contains_text}
 use Rattle.std.specs.Cmp.Lexicographic.{slice_cmp}
 use Rattle.std.specs.List.{list_any}
 use Rattle.std.specs.Ordering.{nat_cmp}
@@ -13,16 +13,18 @@ use Rattle.tall_grammar.specs.ScriptReader.{new_name}
 use Rattle.tall_expr.proofs.Turns.{among}
 use Rattle.tall_parse.specs.FunctionNames.{Holds, texts_of}
 
-either : (a b : Bool) → cond a true b ≡ (a || b)
-either true b = refl
-either false b = refl
+either : {x : Bool} (a b : Bool) → x ≡ cond a true b → x ≡ (a || b)
+either true b h = h
+either false b h = h
 
 -- a set that got a name
 pub one_added : {Y : Type 0} (name : List ℕ) (old new : BTreeSet (String Y))
     → UpdatesBy string_cmp (λ k. slice_cmp nat_cmp name (string_bytes k)) old new true → Holds new (name ∷ texts_of old)
 one_added name old new updates = λ text.
-    sym (among text new.keys) ∙ btree_set_updates_text name old new true updates text
-    ∙ either _ _ ∙ ap (λ b. b || _) (nat_list_eq_equiv.symm name text) ∙ ap (λ b. is_text text name || b) (among text old.keys)
+    let found = sym (among text new.keys) ∙ btree_set_updates_text name old new true updates text in
+    let turned = ap (λ b. cond b true (contains_text old text)) (nat_list_eq_equiv.symm name text) in
+    let seen = ap (λ b. cond (is_text text name) true b) (among text old.keys) in
+    either (is_text text name) (list_any (is_text text) (texts_of old)) (found ∙ turned ∙ seen)
 
 -- the same, beside a list that the set has
 pub one_more_name : {Y : Type 0} (name : List ℕ) (names : List (List ℕ)) (old new : BTreeSet (String Y))

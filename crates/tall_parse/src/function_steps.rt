@@ -13,7 +13,6 @@ use crate::step_nodes::{added, arm, assigned, chosen, counted, looped};
 use sqlite_items::Items;
 use tall_expr::cursor::Tokens;
 use tall_expr::flagged::{Flagged, and_last};
-use tall_expr::operators::is;
 use tall_grammar::faults::Fault;
 use tall_grammar::steps::{Arm, FunctionStep};
 use tall_value::Name;
@@ -55,7 +54,7 @@ impl Reading {
     ) -> Result<Flagged<FunctionStep>, Fault>
         ensures { Gives (with_it step_of) (spec.named_step self.now.turns self.now.depth line name tokens.old) result tokens.new }
     {
-        if is(name.as_str().as_bytes(), b"add") && tokens.is_sign(b"(") {
+        if name.as_str() == "add" && tokens.is_sign(b"(") {
             tokens.take();
             return self.adding(tokens, line);
         }
@@ -63,11 +62,13 @@ impl Reading {
     }
 }
 
+/// How the blocks of functions are read.
 #[derive(Clone, Copy)]
-pub struct Blocks<F> {
+struct Blocks<F> {
     reading: Reading,
     /// How many blocks may still stand inside one another.
     blocks: usize,
+    /// What reads the statements of a block inside.
     steps: F,
 }
 

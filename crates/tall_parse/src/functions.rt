@@ -155,7 +155,8 @@ impl Reading {
         Err(Fault::Memory)
     }
 
-    /// A script.
+    /// A script, or the line of the first expression in it that is higher than it may be. The tokens are read to their
+    /// end, or up to the first one with which no script goes on, where the answer is `Fault::Stop`.
     pub fn script(&self, tokens: &mut Tokens<'_>) -> Result<Flagged<Script>, Fault>
         ensures { Gives (with_it program_of) (spec.program self.now.turns self.now.depth tokens.old) result tokens.new }
     {

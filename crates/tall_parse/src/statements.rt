@@ -17,9 +17,10 @@ use tall_grammar::faults::Fault;
 use tall_grammar::scripts::{Form, Statement};
 use tall_value::Name;
 
-/// What the readers of a script want.
+/// How a script is read. Where a number runs out the answer is `Fault::Memory`.
 #[derive(Clone, Copy)]
 pub struct Reading {
+    /// Where what is read is kept.
     pub alloc: Global,
     /// The greatest number of turns of a loop: no fewer than the tokens.
     pub turns: usize,
@@ -44,6 +45,7 @@ impl Reading {
         Ok(settled(line, kept))
     }
 
+    /// A name.
     pub fn name(&self, tokens: &mut Tokens<'_>) -> Result<Name, Fault>
         ensures { Gives itself (take_text is_name tokens.old) result tokens.new }
     {

@@ -1,4 +1,4 @@
-use Rattle.std.proofs.Common.{rules, arith, map}
+use Rattle.std.proofs.Common.{rules, arith}
 use Rattle.std.proofs.lemmas.Grind.{common_steps}
 use Rattle.tall_grammar.specs.Readers.{listed_from, is_name, take_text}
 use Rattle.tall_expr.proofs.Turns.{one_more}
