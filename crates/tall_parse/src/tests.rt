@@ -16,7 +16,12 @@ fn is_refused(rt: &impl Abort, alloc: Global, text: &[u8], fault: ParseFault) {
 /// The texts are refused with a syntax fault in these lines.
 fn are_no_scripts(rt: &impl Abort, alloc: Global, rows: &[(&str, u32)]) {
     for (text, line) in rows {
-        is_refused(rt, alloc, text.as_bytes(), ParseFault::Syntax { line: *line });
+        is_refused(
+            rt,
+            alloc,
+            text.as_bytes(),
+            ParseFault::Syntax { line: *line },
+        );
     }
 }
 
@@ -74,7 +79,10 @@ fn scripts_are_read(rt: HostRuntime) {
         ("ds.ReadSize = 5", (1, 0)),
         ("[a, b] = gather(x, y)", (1, 0)),
         ("x = 'it''s' % it\n", (1, 0)),
-        ("a = 1\nfunction f(x, ~, y)\nend\nfunction g(x, y, z)\nend", (1, 2)),
+        (
+            "a = 1\nfunction f(x, ~, y)\nend\nfunction g(x, y, z)\nend",
+            (1, 2),
+        ),
     ];
     for (text, counts) in &rows {
         is_script(&rt, rt.alloc(), text.as_bytes(), *counts);
@@ -124,15 +132,35 @@ fn bad_tokens_have_their_place(rt: HostRuntime) {
 #[test]
 fn sixty_four_brackets_may_be_open(rt: HostRuntime) -> Result<(), Fail> {
     let deep = ParseFault::TooDeep { line: 1 };
-    is_script(&rt, rt.alloc(), around(rt.alloc(), 64, b'(', b')')?.as_slice(), (1, 0));
-    is_refused(&rt, rt.alloc(), around(rt.alloc(), 65, b'(', b')')?.as_slice(), deep);
+    is_script(
+        &rt,
+        rt.alloc(),
+        around(rt.alloc(), 64, b'(', b')')?.as_slice(),
+        (1, 0),
+    );
+    is_refused(
+        &rt,
+        rt.alloc(),
+        around(rt.alloc(), 65, b'(', b')')?.as_slice(),
+        deep,
+    );
     // brackets that don't fit one another are counted too
-    is_refused(&rt, rt.alloc(), around(rt.alloc(), 65, b'[', b'}')?.as_slice(), deep);
+    is_refused(
+        &rt,
+        rt.alloc(),
+        around(rt.alloc(), 65, b'[', b'}')?.as_slice(),
+        deep,
+    );
     // before what is no script
     let mut text = Vec::new(rt.alloc());
     text.extend_from_slice(b"x = )\n")?;
     text.extend_from_slice(around(rt.alloc(), 65, b'(', b')')?.as_slice())?;
-    is_refused(&rt, rt.alloc(), text.as_slice(), ParseFault::TooDeep { line: 2 });
+    is_refused(
+        &rt,
+        rt.alloc(),
+        text.as_slice(),
+        ParseFault::TooDeep { line: 2 },
+    );
     Ok(())
 }
 
@@ -161,12 +189,22 @@ fn sixty_four_blocks_may_be_open(rt: HostRuntime) -> Result<(), Fail> {
 #[test]
 fn an_expression_may_be_sixty_four_high(rt: HostRuntime) -> Result<(), Fail> {
     let deep = ParseFault::TooDeep { line: 1 };
-    is_script(&rt, rt.alloc(), signs(rt.alloc(), 0, 5 + 63)?.as_slice(), (1, 0));
+    is_script(
+        &rt,
+        rt.alloc(),
+        signs(rt.alloc(), 0, 5 + 63)?.as_slice(),
+        (1, 0),
+    );
     let mut text = signs(rt.alloc(), 0, 5 + 64)?;
     is_refused(&rt, rt.alloc(), text.as_slice(), deep);
     // behind what is no script
     text.extend_from_slice(b"\ny = )")?;
-    is_refused(&rt, rt.alloc(), text.as_slice(), ParseFault::Syntax { line: 2 });
+    is_refused(
+        &rt,
+        rt.alloc(),
+        text.as_slice(),
+        ParseFault::Syntax { line: 2 },
+    );
     Ok(())
 }
 
@@ -174,8 +212,18 @@ fn an_expression_may_be_sixty_four_high(rt: HostRuntime) -> Result<(), Fail> {
 #[test]
 fn long_scripts_are_read(rt: HostRuntime) -> Result<(), Fail> {
     let deep = ParseFault::TooDeep { line: 1 };
-    is_refused(&rt, rt.alloc(), signs(rt.alloc(), 0, LONGEST)?.as_slice(), deep);
-    is_refused(&rt, rt.alloc(), signs(rt.alloc(), 64, LONGEST)?.as_slice(), deep);
+    is_refused(
+        &rt,
+        rt.alloc(),
+        signs(rt.alloc(), 0, LONGEST)?.as_slice(),
+        deep,
+    );
+    is_refused(
+        &rt,
+        rt.alloc(),
+        signs(rt.alloc(), 64, LONGEST)?.as_slice(),
+        deep,
+    );
     let mut blanks = Vec::new(rt.alloc());
     for _blank in 0..LONGEST {
         blanks.push(b' ')?;
@@ -197,7 +245,10 @@ fn form_of(script: &Script) -> Option<&Form> {
 /// Does a name get this text?
 fn gets_text(form: &Form, name: &str, text: &str) -> bool {
     match form {
-        Form::Assign { name: target, value } => match &value.node {
+        Form::Assign {
+            name: target,
+            value,
+        } => match &value.node {
             Node::Text(value) => target.as_str() == name && value.as_str() == text,
             _ => false,
         },
@@ -238,8 +289,20 @@ fn is_statement(alloc: Global, text: &str, test: impl Fn(&Form) -> bool) -> bool
 
 #[test]
 fn statements_have_their_parts(rt: HostRuntime) {
-    assert!(rt; is_statement(rt.alloc(), "[a, b] = gather(x, y)", |form| gathers_two(form)));
-    assert!(rt; is_statement(rt.alloc(), "ds.ReadSize = 5", |form| sets(form, "ds", "ReadSize")));
+    assert!(rt;
+        is_statement(
+            rt.alloc(),
+            "[a, b] = gather(x, y)",
+            |form| gathers_two(form)
+        )
+    );
+    assert!(rt;
+        is_statement(
+            rt.alloc(),
+            "ds.ReadSize = 5",
+            |form| sets(form, "ds", "ReadSize")
+        )
+    );
     let texts = [
         ("x = 'it''s'", "it's"),
         ("x = ' \"\"'''", " \"\"'"),
@@ -248,7 +311,10 @@ fn statements_have_their_parts(rt: HostRuntime) {
         ("x = ''", ""),
     ];
     for (script, text) in &texts {
-        assert!(rt; is_statement(rt.alloc(), *script, |form| gets_text(form, "x", *text)), "{script}");
+        assert!(rt;
+            is_statement(rt.alloc(), *script, |form| gets_text(form, "x", *text)),
+            "{script}"
+        );
     }
 }
 
