@@ -24,7 +24,7 @@ use Rattle.tall_value.specs.Cells.{Seen, whole, logical, double, text, amount, s
 use Rattle.tall_value.specs.ClassTables.{sign_kind, of_number, unary_kind, unary_class, class_result, beside_integer, with_integer, arithmetic_kind, bits_beside, bits_kind, texts_kind, both_numbers, comparison_kind, binary_kind, binary_class}
 use Rattle.tall_value.specs.CellOperators.{double_cell, signed, truth, truth_cell, to_double, unary_cell, as_double, of_doubles, arithmetic, bits, joined, binary_cell}
 use Rattle.tall_value.specs.Elementwise.{beside}
-use Rattle.tall_column.specs.Columns.{class_of_cell}
+use Rattle.tall_dense.specs.Columns.{class_of_cell}
 use Rattle.tall_column.specs.Mapped.{scalar_class}
 
 kind_back : (k : Kind) → kind_of (class_of k) ≡ k

@@ -1,6 +1,6 @@
 -- The class of a column is that of its first cell.
-use Rattle.std.specs.Prelude.{Bool, true, false, Option, None, Some, Result, Ok, Err}
-use Rattle.std.proofs.Common.{ℕ, ◌+◌, ◌<◌, ◌≡◌, List, [], ◌∷◌, length, map, refl, sym, ◌∙◌, ap, subst, arith}
+use Rattle.std.specs.Prelude.{Bool, false, Result, Ok, Err}
+use Rattle.std.proofs.Common.{ℕ, ◌<◌, ◌≡◌, List, [], ◌∷◌, length, map, refl, sym, ◌∙◌, ap, subst, arith}
 use Rattle.tall_value.specs.declared.class.Class.{Class}
 use Rattle.tall_value.specs.declared.faults.CellFault.{CellFault}
 use Rattle.tall_value.specs.declared.operators.Binary.{Binary}
@@ -9,13 +9,13 @@ use Rattle.tall_value.specs.Cells.{Seen}
 use Rattle.tall_value.specs.CellOperators.{unary_cell, binary_cell}
 use Rattle.tall_value.specs.ClassTables.{unary_class, binary_class}
 use Rattle.tall_value.specs.Columns.{numbered}
-use Rattle.tall_value.specs.Elementwise.{in_front, at_row, each_row, each_pair, beside, unary_rows, binary_rows, scalar_rows}
-use Rattle.tall_column.specs.Columns.{SeenColumn, class_of_cell}
-use Rattle.tall_column.specs.Dense.{shown}
+use Rattle.tall_value.specs.Elementwise.{at_row, each_row, each_pair, beside, unary_rows, binary_rows, scalar_rows}
+use Rattle.tall_dense.specs.Columns.{SeenColumn, class_of_cell}
+use Rattle.tall_dense.specs.Dense.{shown}
 use Rattle.tall_column.specs.Mapped.{scalar_class}
-use Rattle.tall_column.specs.declared.values.Values.{Values}
-use Rattle.tall_column.specs.declared.values.Values.TheVariants.{I8, I16, I32, I64, U8, U16, U32, U64, Logical, Double, Text}
-use Rattle.tall_column.proofs.RowLemmas.{Outcome}
+use Rattle.tall_dense.specs.declared.values.Values.{Values}
+use Rattle.tall_dense.specs.declared.values.Values.TheVariants.{I8, I16, I32, I64, U8, U16, U32, U64, Logical, Double, Text}
+use Rattle.tall_dense.proofs.RowLemmas.{Outcome}
 use Rattle.tall_column.proofs.ClassLemmas.{class_of_one, class_of_two, class_beside}
 
 abbrev pub IsClassed : SeenColumn → Type 0

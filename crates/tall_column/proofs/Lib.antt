@@ -1,8 +1,5 @@
-pub mod Lists
-pub mod Ranges
-pub mod RowLemmas
+pub use Rattle.tall_dense.proofs.Lists
 pub mod ClassLemmas
-pub mod TextLemmas
 pub mod TableLemmas
 pub mod ScalarLemmas
 pub mod FirstCells

@@ -1,11 +1,11 @@
 -- A scalar that counts as a number of a column's class does what the number does.
-use Rattle.std.specs.Prelude.{ℤ, pos, unsigned_abs, not, ◌&&◌, ◌||◌, Bool, true, false, if◌then◌else◌, ◌==◌, Option, None, Some, Result, Ok, Err}
-use Rattle.std.specs.declared.cmp.Ordering.{Ordering}
-use Rattle.std.proofs.Common.{ℕ, ◌+◌, ◌≡◌, List, [], ◌∷◌, map, refl, sym, ◌∙◌, ap}
+use Rattle.std.specs.Prelude.{ℤ, pos, int_le, unsigned_abs, not, ◌&&◌, ◌||◌, Bool, true, false, if◌then◌else◌, ◌==◌, Option, None, Some, Result, Ok}
+use Rattle.std.proofs.Common.{ℕ, ◌+◌, ◌≡◌, List, [], ◌∷◌, get_or, map, refl, sym, ◌∙◌, ap}
 use Rattle.tall_int.specs.declared.operators.Arith.{Arith}
 use Rattle.tall_int.specs.declared.operators.Arith.TheVariants as arith
 use Rattle.tall_int.specs.Twos.{twos_and, twos_or, twos_xor}
 use Rattle.tall_value.specs.declared.class.IntKind.{IntKind}
+use Rattle.tall_value.specs.declared.class.IntKind.TheVariants.{Int8, Int16, Int32, Int64, Uint8, Uint16, Uint32, Uint64}
 use Rattle.tall_value.specs.declared.faults.CellFault.{CellFault}
 use Rattle.tall_value.specs.declared.operators.Binary.{Binary}
 use Rattle.tall_value.specs.declared.operators.Binary.TheVariants.{Add, Sub, Mul, Div, Modulo, Idivide, BitAnd, BitOr, BitXor, Eq, Ne, Lt, Le, Gt, Ge, StrCmp, And, Or}
@@ -13,7 +13,57 @@ use Rattle.tall_value.specs.Cells.{Seen, whole, logical, double, text, amount, b
 use Rattle.tall_value.specs.CellOperators.{integer_side, in_class, converted, arithmetic, double_cell, of_doubles, as_double, bits, compared, comparison, equal, below, above, truth, joined, binary_cell}
 use Rattle.tall_value.specs.Columns.{numbered}
 use Rattle.tall_value.specs.Elementwise.{at_row, each_row, beside}
-use Rattle.tall_column.specs.Scalars.{IsBeside, StandsFor}
+use Rattle.std.proofs.lemmas.Bool.{eqb-true}
+use Rattle.tall_value.specs.Classes.{is_same, place}
+use Rattle.tall_column.specs.Scalars.{counted, in_range}
+
+-- ---- the number that a scalar counts as
+
+-- of the class, or a logical or a double
+abbrev pub IsBeside : IntKind → Seen → Type 0
+IsBeside k (whole j n) = j ≡ k
+IsBeside k (logical b) = Unit {0}
+IsBeside k (double d) = Unit {0}
+IsBeside k (text t) = ⊥
+
+-- a scalar that counts as the number n of class k
+pub record StandsFor (k : IntKind) (n : ℤ) (scalar : Seen) : Type 0 where
+  pub beside : IsBeside k scalar
+  pub counts : amount scalar ≡ Some n
+
+abbrev kind_at : ℕ → IntKind
+kind_at n = get_or (Int8 ∷ Int16 ∷ Int32 ∷ Int64 ∷ Uint8 ∷ Uint16 ∷ Uint32 ∷ Uint64 ∷ []) n Int8
+
+kind_back : (k : IntKind) → kind_at (place k) ≡ k
+kind_back Int8 = refl
+kind_back Int16 = refl
+kind_back Int32 = refl
+kind_back Int64 = refl
+kind_back Uint8 = refl
+kind_back Uint16 = refl
+kind_back Uint32 = refl
+kind_back Uint64 = refl
+
+same_kind : (j k : IntKind) → is_same j k ≡ true → j ≡ k
+same_kind j k h = sym (kind_back j) ∙ ap kind_at (eqb-true (place j) (place k) h) ∙ kind_back k
+
+some_if : (b : Bool) (o : Option ℤ) (n : ℤ) → (if b then o else None) ≡ Some n → (b ≡ true) × (o ≡ Some n)
+some_if true o n h = (refl, h)
+some_if false o n h = absurd cc
+
+same_number : (low high v n : ℤ) → in_range low high v ≡ Some n → ◌≡◌ {A = Option ℤ} (Some v) (Some n)
+same_number low high v n h = (some_if (int_le low v && int_le v high) (Some v) n h).1
+
+pub stands : (k : IntKind) (low high n : ℤ) (s : Seen) → counted k low high s ≡ Some n → StandsFor k n s
+stands k low high n (whole j v) h =
+    let both = some_if (is_same j k) (in_range low high v) n h in
+    record { beside = same_kind j k both.0; counts = same_number low high v n both.1 }
+stands k low high n (logical b) h = record { beside = tt; counts = same_number low high (bit b) n h }
+stands k low high n (double (Some v)) h = record { beside = tt; counts = same_number low high v n h }
+stands k low high n (double None) h = absurd (let no : ◌≡◌ {A = Option ℤ} None (Some n) = h in cc)
+stands k low high n (text t) h = absurd (let no : ◌≡◌ {A = Option ℤ} None (Some n) = h in cc)
+
+-- ---- what an operator looks at in it
 
 -- what an operator looks at in two operands with an integer among them
 record Alike (k : IntKind) (x y v w : Seen) : Type 0 where

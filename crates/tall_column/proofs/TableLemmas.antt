@@ -4,7 +4,7 @@ use Rattle.std.specs.Str.{bytes_eq}
 use Rattle.std.proofs.Common.{ℕ, zero, suc, ◌≡◌, ◌<◌, ◌+◌, List, [], ◌∷◌, ◌++◌, length, drop, get_or, Bool, true, false, refl, sym, ◌∙◌, ap, subst, arith}
 use Rattle.std.proofs.lemmas.List.{drop_more}
 use Rattle.std.proofs.lemmas.List.Quantifiers.{all_pairs_push}
-use Rattle.tall_column.specs.Columns.{SeenColumn}
+use Rattle.tall_dense.specs.Columns.{SeenColumn}
 use Rattle.tall_column.specs.Tables.{column_named, height_of, HasHeight, FitsHeight, AreApart, IsTable}
 
 -- where no column before this one has the name, and this one has, it is the column of the name

@@ -1,6 +1,5 @@
-pub mod Columns
-pub mod Texts
-pub mod Dense
+pub use Rattle.tall_dense.specs.Columns
+pub use Rattle.tall_dense.specs.Rows
 pub mod Tables
 pub mod Mapped
 pub mod Scalars

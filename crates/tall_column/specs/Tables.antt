@@ -2,7 +2,7 @@
 use Rattle.std.specs.Prelude.{ℕ, ◌≡◌, false, if◌then◌else◌, List, [], ◌∷◌, length, Option, None, Some}
 use Rattle.std.specs.List.{AllPairs}
 use Rattle.std.specs.Str.{bytes_eq}
-use Rattle.tall_column.specs.Columns.{SeenColumn}
+use Rattle.tall_dense.specs.Columns.{SeenColumn}
 
 -- the column of a name
 abbrev pub column_named : List ℕ → List (List ℕ × SeenColumn) → Option SeenColumn

@@ -2,12 +2,12 @@
 ghost use Rattle.std.specs.Prelude.{◌≡◌, ◌<◌, ◌≤◌, [], IfOk, MatchResult, Some, length, slice_get};
 ghost use Rattle.tall_value.specs.declared.class.Class.TheVariants as class;
 ghost use Rattle.tall_value.specs.Cells.{seen};
-ghost use Rattle.tall_column.specs.Dense.{shown};
-ghost use Rattle.tall_column.specs.Columns.{class_of_cell, followed_by, rows_between, rows_kept, with_cell};
+ghost use Rattle.tall_dense.specs.Dense.{shown};
+ghost use Rattle.tall_dense.specs.Columns.{class_of_cell, followed_by, rows_between, rows_kept, with_cell};
 
-use crate::values::Values;
 use std::alloc::{AllocError, Global};
 use std::marker::Model;
+use tall_dense::Values;
 use tall_value::{Cell, Class};
 
 /// A column: a class and a list of cells of it, which contracts see as such. It keeps its allocator.
@@ -18,11 +18,11 @@ pub struct Column {
 }
 
 impl Model for Column {
-    ghost use Rattle.tall_column.specs.Columns.{SeenColumn};
+    ghost use Rattle.tall_dense.specs.Columns.{SeenColumn};
 
     ghost Value = { SeenColumn };
 
-    ghost use Rattle.tall_column.specs.Dense.{shown};
+    ghost use Rattle.tall_dense.specs.Dense.{shown};
 
     ghost view = { λ c. shown c.values };
 }

@@ -1,27 +1,23 @@
-//! Columns of cells and tables of columns.
+//! Columns of cells, tables of columns, and the operators over rows.
 //!
-//! A column has a class and a list of cells of this class. It keeps its values densely: a vector of the machine's values,
-//! or for texts one buffer of bytes with the place where each text ends.
+//! A column has a class and a list of cells of this class, which tall_dense keeps. An operator over the rows of columns
+//! goes to a loop over the values where there is one for the operator and the classes, and else from cell to cell.
 #![tactic(auto)]
 
+mod binaries;
 mod column;
-mod dense;
-mod faults;
-mod integer;
-mod loops;
-mod operators;
+mod comparisons;
+mod doubles;
+mod integers;
 mod rows;
 mod scalars;
-mod stored;
 mod table;
-mod texts;
 mod unaries;
-mod values;
 
 pub use column::Column;
-pub use faults::OpFault;
 pub use rows::{map_binary, map_scalar, map_unary};
 pub use table::{Table, Value};
+pub use tall_dense::OpFault;
 
 #[cfg(test)]
 mod row_tests;

@@ -5,15 +5,16 @@ ghost use Rattle.tall_value.specs.ClassTables.{binary_class, unary_class as unar
 ghost use Rattle.tall_value.specs.Columns.{numbered};
 ghost use Rattle.tall_value.specs.Elementwise.{beside, binary_rows, scalar_rows, unary_rows};
 ghost use Rattle.tall_value.specs.Results.{result_seen};
-ghost use Rattle.tall_column.specs.Columns.{class_of_cell};
-ghost use Rattle.tall_column.specs.Mapped.{Answers, scalar_class};
+ghost use Rattle.tall_dense.specs.Columns.{class_of_cell};
+ghost use Rattle.tall_dense.specs.Rows.{Answers};
+ghost use Rattle.tall_column.specs.Mapped.{scalar_class};
 
+use crate::binaries::column_pairs;
 use crate::column::Column;
-use crate::dense::column_pairs;
-use crate::faults::OpFault;
 use crate::scalars::column_beside;
 use crate::unaries::column_each;
 use std::alloc::Global;
+use tall_dense::OpFault;
 use tall_value::{
     Binary, Cell, CellFault, Class, ClassFault, Unary, binary, result_class, unary, unary_class,
 };

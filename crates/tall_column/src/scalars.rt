@@ -1,22 +1,20 @@
 //! Operators on a column and a scalar, each in a loop over the values.
-ghost use Rattle.std.specs.Prelude.{◌≡◌, IfSome, map};
-ghost use Rattle.tall_value.specs.Cells.{seen};
+ghost use Rattle.std.specs.Prelude.{◌≡◌, map, option_map};
+ghost use Rattle.tall_value.specs.Cells.{seen, whole};
 ghost use Rattle.tall_value.specs.Columns.{numbered};
 ghost use Rattle.tall_value.specs.Elementwise.{scalar_rows};
-ghost use Rattle.tall_column.specs.Dense.{shown};
+ghost use Rattle.tall_dense.specs.Dense.{shown};
 ghost use Rattle.tall_column.specs.Mapped.{AnswersIfMade};
-ghost use Rattle.tall_column.specs.Scalars.{StandsFor};
+ghost use Rattle.tall_column.specs.Scalars.{counted, in_range};
 
-use crate::dense::{compare_beside, double_beside, integer_beside};
-use crate::faults::OpFault;
-use crate::integer::Integer;
-use crate::values::Values;
+use crate::binaries::{compare_beside, double_beside, integer_beside};
 use std::alloc::Global;
+use tall_dense::{Integer, OpFault, Values};
 use tall_value::{Binary, Cell, Content};
 
-/// The value of a number; none outside the class.
+/// The value of a number; none exactly outside the class.
 fn value_of<I: Integer>(n: i128) -> Option<I>
-    ensures { IfSome result (λ x. I.number x ≡ n) }
+    ensures { option_map I.number result ≡ in_range I.MIN I.MAX n }
 {
     if I::MIN <= n && n <= I::MAX {
         Some(I::from_wide(n))
@@ -25,13 +23,13 @@ fn value_of<I: Integer>(n: i128) -> Option<I>
     }
 }
 
-/// The value of the class that a scalar counts as; none for a number outside the class or of another integer class, for NaN
-/// and for a text.
+/// The value of the class that a scalar counts as; none exactly for a number outside the class or of another integer
+/// class, for NaN and for a text.
 fn scalar_in<I: Integer>(scalar: &Cell<'_>) -> Option<I>
-    ensures { IfSome result (λ x. StandsFor I.int_kind (I.number x) (seen scalar.now)) }
+    ensures { option_map I.number result ≡ counted I.KIND I.MIN I.MAX (seen scalar.now) }
 {
     match scalar.content() {
-        Content::Whole(kind, n) if kind.is_same(I::kind()) => value_of(n),
+        Content::Whole(kind, n) if kind.is_same(I::KIND) => value_of(n),
         Content::Logical(b) => value_of(if b { 1 } else { 0 }),
         Content::Double(d) => match d.get() {
             Some(n) => value_of(n as i128),
@@ -49,7 +47,7 @@ fn integer_with_scalar<I: Integer>(
     scalar: &Cell<'_>,
     scalar_left: bool,
 ) -> Result<Option<Values>, OpFault>
-    ensures { AnswersIfMade (scalar_rows op scalar_left (seen scalar.now) (numbered 0 (map I.shown items.now))) result }
+    ensures { AnswersIfMade (scalar_rows op scalar_left (seen scalar.now) (numbered 0 (map (λ x. whole I.KIND (I.number x)) items.now))) result }
 {
     match scalar_in(scalar) {
         Some(value) => integer_beside(alloc, op, items, value, scalar_left),

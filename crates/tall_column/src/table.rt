@@ -17,7 +17,7 @@ pub struct Table {
 
 impl Model for Table {
     ghost use Rattle.std.specs.Prelude.{List, ℕ};
-    ghost use Rattle.tall_column.specs.Columns.{SeenColumn};
+    ghost use Rattle.tall_dense.specs.Columns.{SeenColumn};
 
     ghost Value = { List (List ℕ × SeenColumn) };
 

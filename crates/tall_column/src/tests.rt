@@ -1,7 +1,7 @@
 ghost use Rattle.std.specs.Prelude.{◌≡◌, IfOk, length};
 ghost use Rattle.tall_value.specs.declared.class.Class.TheVariants as class;
 ghost use Rattle.tall_value.specs.Cells.{seen};
-ghost use Rattle.tall_column.specs.Columns.{class_of_cell};
+ghost use Rattle.tall_dense.specs.Columns.{class_of_cell};
 
 use super::*;
 use std::alloc::{AllocError, Global};

@@ -1,92 +1,19 @@
 //! Operators of one operand on columns of one class, each in a loop over the values.
 ghost use Rattle.std.specs.Prelude.{◌≡◌, map};
-ghost use Rattle.tall_value.specs.declared.operators.Unary.TheVariants as unary;
-ghost use Rattle.tall_value.specs.Cells.{double};
-ghost use Rattle.tall_value.specs.CellOperators.{to_integer, unary_cell};
+ghost use Rattle.tall_value.specs.Cells.{double, whole};
+ghost use Rattle.tall_value.specs.CellOperators.{to_integer};
 ghost use Rattle.tall_value.specs.Columns.{numbered};
 ghost use Rattle.tall_value.specs.Elementwise.{each_row, unary_rows};
-ghost use Rattle.tall_column.specs.Dense.{shown};
+ghost use Rattle.tall_dense.specs.Dense.{shown};
 ghost use Rattle.tall_column.specs.Mapped.{AnswersIfMade};
 
-use crate::dense::made;
-use crate::faults::OpFault;
-use crate::integer::Integer;
-use crate::loops::{RowOperator, each};
-use crate::stored::Stored;
-use crate::values::Values;
+use crate::binaries::made;
+use crate::{doubles, integers};
 use std::alloc::Global;
 use std::marker::PhantomData;
-use tall_int::{Whole, abs, clamp, neg};
+use tall_dense::{Integer, OpFault, RowOperator, Stored, Values, each};
+use tall_int::{Whole, clamp};
 use tall_value::{CellFault, Unary};
-
-/// `-x`
-struct Opposite;
-
-impl<I: Integer> RowOperator<I> for Opposite {
-    type Out = I;
-
-    ghost gives = { λ _. unary_cell unary.Neg };
-
-    fn of(&self, a: I) -> Result<I, CellFault> {
-        Ok(neg(a))
-    }
-}
-
-impl RowOperator<Whole> for Opposite {
-    type Out = Whole;
-
-    ghost gives = { λ _. unary_cell unary.Neg };
-
-    fn of(&self, a: Whole) -> Result<Whole, CellFault> {
-        Ok(a.neg())
-    }
-}
-
-/// `+x`
-struct Itself;
-
-impl<I: Integer> RowOperator<I> for Itself {
-    type Out = I;
-
-    ghost gives = { λ _. unary_cell unary.Plus };
-
-    fn of(&self, a: I) -> Result<I, CellFault> {
-        Ok(clamp(a.wide()))
-    }
-}
-
-impl RowOperator<Whole> for Itself {
-    type Out = Whole;
-
-    ghost gives = { λ _. unary_cell unary.Plus };
-
-    fn of(&self, a: Whole) -> Result<Whole, CellFault> {
-        Ok(a)
-    }
-}
-
-/// `abs(x)`
-struct Magnitude;
-
-impl<I: Integer> RowOperator<I> for Magnitude {
-    type Out = I;
-
-    ghost gives = { λ _. unary_cell unary.Abs };
-
-    fn of(&self, a: I) -> Result<I, CellFault> {
-        Ok(abs(a))
-    }
-}
-
-impl RowOperator<Whole> for Magnitude {
-    type Out = Whole;
-
-    ghost gives = { λ _. unary_cell unary.Abs };
-
-    fn of(&self, a: Whole) -> Result<Whole, CellFault> {
-        Ok(a.abs())
-    }
-}
 
 /// `int8(x)` and its kin.
 struct To<I> {
@@ -96,10 +23,10 @@ struct To<I> {
 impl<I: Integer, T: Stored> RowOperator<T> for To<I> {
     type Out = I;
 
-    ghost gives = { λ _. to_integer I.int_kind };
+    ghost gives = { λ _. to_integer I.KIND };
 
     fn of(&self, a: T) -> Result<I, CellFault> {
-        Ok(match a.cell().amount() {
+        Ok(match a.amount() {
             Some(n) => clamp(n),
             None => clamp(0),
         })
@@ -119,7 +46,7 @@ fn each_value<T: Stored, F: RowOperator<T>>(
 
 /// The column of an integer class.
 fn conversion<I: Integer, T: Stored>(alloc: Global, items: &[T]) -> Result<Option<Values>, OpFault>
-    ensures { AnswersIfMade (each_row (to_integer I.int_kind) (numbered 0 (map T.shown items.now))) result }
+    ensures { AnswersIfMade (each_row (to_integer I.KIND) (numbered 0 (map T.shown items.now))) result }
 {
     each_value(alloc, &To::<I> { class: PhantomData }, items)
 }
@@ -147,12 +74,12 @@ fn each_integer<I: Integer>(
     op: Unary,
     items: &[I],
 ) -> Result<Option<Values>, OpFault>
-    ensures { AnswersIfMade (unary_rows op (numbered 0 (map I.shown items.now))) result }
+    ensures { AnswersIfMade (unary_rows op (numbered 0 (map (λ x. whole I.KIND (I.number x)) items.now))) result }
 {
     match op {
-        Unary::Neg => each_value(alloc, &Opposite, items),
-        Unary::Plus => each_value(alloc, &Itself, items),
-        Unary::Abs => each_value(alloc, &Magnitude, items),
+        Unary::Neg => each_value(alloc, &integers::Opposite, items),
+        Unary::Plus => each_value(alloc, &integers::Itself, items),
+        Unary::Abs => each_value(alloc, &integers::Magnitude, items),
         _ => converted(alloc, op, items),
     }
 }
@@ -162,9 +89,9 @@ fn each_double(alloc: Global, op: Unary, items: &[Whole]) -> Result<Option<Value
     ensures { AnswersIfMade (unary_rows op (numbered 0 (map (λ d. double d) items.now))) result }
 {
     match op {
-        Unary::Neg => each_value(alloc, &Opposite, items),
-        Unary::Plus => each_value(alloc, &Itself, items),
-        Unary::Abs => each_value(alloc, &Magnitude, items),
+        Unary::Neg => each_value(alloc, &doubles::Opposite, items),
+        Unary::Plus => each_value(alloc, &doubles::Itself, items),
+        Unary::Abs => each_value(alloc, &doubles::Magnitude, items),
         _ => converted(alloc, op, items),
     }
 }

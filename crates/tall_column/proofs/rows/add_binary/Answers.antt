@@ -3,7 +3,7 @@ use Rattle.std.proofs.Common.{◌∙◌, ap, sym, false, arith}
 use Rattle.tall_value.specs.Cells.{seen}
 use Rattle.tall_value.specs.CellOperators.{binary_cell}
 use Rattle.tall_value.specs.Results.{result_seen}
-use Rattle.tall_column.proofs.RowLemmas.{goes_on, stops, all_done, pair_results, pair-results, get-pairs, length-pairs}
+use Rattle.tall_dense.proofs.RowLemmas.{goes_on, stops, all_done, pair_results, pair-results, get-pairs, length-pairs}
 use Rattle.tall_column.proofs.ClassLemmas.{class_of_two}
 use Rattle.tall_column.proofs.rows.add_binary.Goals as goal
 

@@ -1,7 +1,7 @@
 use Rattle.std.specs.Prelude.{Ok}
 use Rattle.std.proofs.Common.{◌≡◌, map, take}
 use Rattle.tall_value.specs.CellOperators.{binary_cell}
-use Rattle.tall_column.proofs.RowLemmas.{pair_results}
+use Rattle.tall_dense.proofs.RowLemmas.{pair_results}
 use Rattle.tall_column.proofs.rows.add_binary.Given as goal
 
 abbrev pub invariant-loop-row : goal.invariant-loop-row

@@ -4,9 +4,9 @@ use Rattle.std.proofs.lemmas.List.{length-map}
 use Rattle.tall_value.specs.Cells.{seen}
 use Rattle.tall_value.specs.Elementwise.{beside}
 use Rattle.tall_value.specs.Results.{result_seen}
-use Rattle.tall_column.specs.Columns.{class_of_cell}
-use Rattle.tall_column.proofs.Lists.{get-map}
-use Rattle.tall_column.proofs.RowLemmas.{goes_on, stops, all_done, each-results}
+use Rattle.tall_dense.specs.Columns.{class_of_cell}
+use Rattle.tall_dense.proofs.Lists.{get-map}
+use Rattle.tall_dense.proofs.RowLemmas.{goes_on, stops, all_done, each-results}
 use Rattle.tall_column.proofs.ClassLemmas.{class_beside}
 use Rattle.tall_column.proofs.rows.add_scalar.Goals as goal
 

@@ -3,7 +3,7 @@ use Rattle.std.proofs.Common.{rules, ◌≡◌, ◌<◌, ◌∙◌, ap, sym, ari
 use Rattle.tall_value.specs.Cells.{seen}
 use Rattle.tall_value.specs.Columns.{numbered}
 use Rattle.tall_value.specs.Elementwise.{scalar_rows}
-use Rattle.tall_column.specs.Columns.{class_of_cell}
+use Rattle.tall_dense.specs.Columns.{class_of_cell}
 use Rattle.tall_column.specs.Mapped.{scalar_class}
 use Rattle.tall_column.proofs.FirstCells.{class_of_beside, classed_column}
 use Rattle.tall_column.proofs.rows.map_scalar.Goals as goal

@@ -1,4 +1,4 @@
-use Rattle.tall_column.proofs.dense.values_beside.Goals as goal
+use Rattle.tall_column.proofs.binaries.values_beside.Goals as goal
 
 pub returns : goal.returns
 returns g c = c.made.ensures _ c.beside.ensures

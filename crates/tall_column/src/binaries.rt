@@ -1,21 +1,17 @@
-//! Operators on columns of one class, each in a loop over the values: the operator and the class are looked at before it.
+//! Operators of two operands on columns of one class, each in a loop over the values: the operator and the class are
+//! looked at before it.
 ghost use Rattle.std.specs.Prelude.{◌≡◌, length, map};
-ghost use Rattle.tall_value.specs.Cells.{double};
+ghost use Rattle.tall_value.specs.Cells.{double, whole};
 ghost use Rattle.tall_value.specs.Columns.{numbered};
 ghost use Rattle.tall_value.specs.Elementwise.{binary_rows, each_pair, each_row, scalar_rows};
-ghost use Rattle.tall_column.specs.Dense.{shown};
-ghost use Rattle.tall_column.specs.Mapped.{Answers, AnswersIfMade, with_scalar};
+ghost use Rattle.tall_dense.specs.Dense.{shown};
+ghost use Rattle.tall_dense.specs.Rows.{Answers, with_scalar};
+ghost use Rattle.tall_column.specs.Mapped.{AnswersIfMade};
 
-use crate::faults::OpFault;
-use crate::integer::Integer;
-use crate::loops::{PairOperator, beside, pairs};
-use crate::operators::{
-    AtLeast, AtMost, Difference, Different, Equal, Greater, Less, Product, Quotient, Remainder,
-    RoundedQuotient, Sum,
-};
-use crate::stored::Stored;
-use crate::values::Values;
+use crate::comparisons::{AtLeast, AtMost, Different, Equal, Greater, Less};
+use crate::{doubles, integers};
 use std::alloc::Global;
+use tall_dense::{Integer, OpFault, PairOperator, Stored, Values, beside, pairs};
 use tall_int::Whole;
 use tall_value::Binary;
 
@@ -83,16 +79,16 @@ fn integer_pairs<I: Integer>(
     a: &[I],
     b: &[I],
 ) -> Result<Option<Values>, OpFault>
-    requires { length (map I.shown b.now) ≡ length (map I.shown a.now) }
-    ensures { AnswersIfMade (binary_rows op (numbered 0 (map I.shown a.now)) (numbered 0 (map I.shown b.now))) result }
+    requires { length (map (λ x. whole I.KIND (I.number x)) b.now) ≡ length (map (λ x. whole I.KIND (I.number x)) a.now) }
+    ensures { AnswersIfMade (binary_rows op (numbered 0 (map (λ x. whole I.KIND (I.number x)) a.now)) (numbered 0 (map (λ x. whole I.KIND (I.number x)) b.now))) result }
 {
     match op {
-        Binary::Add => pair_values(alloc, Sum, a, b),
-        Binary::Sub => pair_values(alloc, Difference, a, b),
-        Binary::Mul => pair_values(alloc, Product, a, b),
-        Binary::Div => pair_values(alloc, Quotient, a, b),
-        Binary::Modulo => pair_values(alloc, Remainder, a, b),
-        Binary::Idivide(how) => pair_values(alloc, RoundedQuotient { how }, a, b),
+        Binary::Add => pair_values(alloc, integers::Sum, a, b),
+        Binary::Sub => pair_values(alloc, integers::Difference, a, b),
+        Binary::Mul => pair_values(alloc, integers::Product, a, b),
+        Binary::Div => pair_values(alloc, integers::Quotient, a, b),
+        Binary::Modulo => pair_values(alloc, integers::Remainder, a, b),
+        Binary::Idivide(how) => pair_values(alloc, integers::RoundedQuotient { how }, a, b),
         _ => compare_pairs(alloc, op, a, b),
     }
 }
@@ -108,11 +104,11 @@ fn double_pairs(
     ensures { AnswersIfMade (binary_rows op (numbered 0 (map (λ d. double d) a.now)) (numbered 0 (map (λ d. double d) b.now))) result }
 {
     match op {
-        Binary::Add => pair_values(alloc, Sum, a, b),
-        Binary::Sub => pair_values(alloc, Difference, a, b),
-        Binary::Mul => pair_values(alloc, Product, a, b),
-        Binary::Div => pair_values(alloc, Quotient, a, b),
-        Binary::Modulo => pair_values(alloc, Remainder, a, b),
+        Binary::Add => pair_values(alloc, doubles::Sum, a, b),
+        Binary::Sub => pair_values(alloc, doubles::Difference, a, b),
+        Binary::Mul => pair_values(alloc, doubles::Product, a, b),
+        Binary::Div => pair_values(alloc, doubles::Quotient, a, b),
+        Binary::Modulo => pair_values(alloc, doubles::Remainder, a, b),
         _ => compare_pairs(alloc, op, a, b),
     }
 }
@@ -146,17 +142,17 @@ pub(crate) fn integer_beside<I: Integer>(
     scalar: I,
     scalar_left: bool,
 ) -> Result<Option<Values>, OpFault>
-    ensures { AnswersIfMade (scalar_rows op scalar_left (I.shown scalar) (numbered 0 (map I.shown items.now))) result }
+    ensures { AnswersIfMade (scalar_rows op scalar_left (whole I.KIND (I.number scalar)) (numbered 0 (map (λ x. whole I.KIND (I.number x)) items.now))) result }
 {
     match op {
-        Binary::Add => values_beside(alloc, Sum, items, scalar, scalar_left),
-        Binary::Sub => values_beside(alloc, Difference, items, scalar, scalar_left),
-        Binary::Mul => values_beside(alloc, Product, items, scalar, scalar_left),
-        Binary::Div => values_beside(alloc, Quotient, items, scalar, scalar_left),
-        Binary::Modulo => values_beside(alloc, Remainder, items, scalar, scalar_left),
+        Binary::Add => values_beside(alloc, integers::Sum, items, scalar, scalar_left),
+        Binary::Sub => values_beside(alloc, integers::Difference, items, scalar, scalar_left),
+        Binary::Mul => values_beside(alloc, integers::Product, items, scalar, scalar_left),
+        Binary::Div => values_beside(alloc, integers::Quotient, items, scalar, scalar_left),
+        Binary::Modulo => values_beside(alloc, integers::Remainder, items, scalar, scalar_left),
         Binary::Idivide(how) => values_beside(
             alloc,
-            RoundedQuotient { how },
+            integers::RoundedQuotient { how },
             items,
             scalar,
             scalar_left,
@@ -176,11 +172,11 @@ pub(crate) fn double_beside(
     ensures { AnswersIfMade (scalar_rows op scalar_left (double scalar) (numbered 0 (map (λ d. double d) items.now))) result }
 {
     match op {
-        Binary::Add => values_beside(alloc, Sum, items, scalar, scalar_left),
-        Binary::Sub => values_beside(alloc, Difference, items, scalar, scalar_left),
-        Binary::Mul => values_beside(alloc, Product, items, scalar, scalar_left),
-        Binary::Div => values_beside(alloc, Quotient, items, scalar, scalar_left),
-        Binary::Modulo => values_beside(alloc, Remainder, items, scalar, scalar_left),
+        Binary::Add => values_beside(alloc, doubles::Sum, items, scalar, scalar_left),
+        Binary::Sub => values_beside(alloc, doubles::Difference, items, scalar, scalar_left),
+        Binary::Mul => values_beside(alloc, doubles::Product, items, scalar, scalar_left),
+        Binary::Div => values_beside(alloc, doubles::Quotient, items, scalar, scalar_left),
+        Binary::Modulo => values_beside(alloc, doubles::Remainder, items, scalar, scalar_left),
         _ => compare_beside(alloc, op, items, scalar, scalar_left),
     }
 }

@@ -1,8 +1,0 @@
-use Rattle.std.proofs.Common.{ap, ◌∙◌, ℤ}
-use Rattle.std.specs.Prelude.{◌*ℤ◌}
-use Rattle.tall_int.specs.Numbers.{nearest}
-use Rattle.tall_column.proofs.Ranges.{narrowed}
-use Rattle.tall_column.proofs.integer.product.Goals as goal
-
-pub returns : goal.returns
-returns g c = narrowed ◌*ℤ◌ _ _ _ _ _ _ _ _ _ _ c.widen.ensures c.widen-2.ensures c.times.ensures c.narrow.ensures g.met.I.Integer.within

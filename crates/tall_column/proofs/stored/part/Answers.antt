@@ -1,6 +1,0 @@
-use Rattle.tall_column.proofs.Lists.{range-map}
-use Rattle.std.proofs.Common.{rules}
-use Rattle.tall_column.proofs.stored.part.Goals as goal
-
-pub returns : goal.returns
-returns g c = search (rules, range-map)
