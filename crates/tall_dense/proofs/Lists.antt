@@ -1,5 +1,5 @@
 -- Lists and their rows.
-use Rattle.std.specs.Prelude.{Some, option_map, slice_get}
+use Rattle.std.specs.Prelude.{Some, if◌then◌else◌, option_map, slice_get}
 use Rattle.std.specs.List.{slice_range}
 use Rattle.std.proofs.Common.{ℕ, ◌≡◌, ◌<◌, ◌≤◌, ◌+◌, ◌-◌, List, [], ◌∷◌, ◌++◌, length, map, take, drop, get_or, Bool, true, false, sym, ◌∙◌, ap, arith, inl, inr}
 use Rattle.std.proofs.lemmas.List.{take-map, drop-map, drop_more, append_assoc, length-drop, get_or-drop, take_more, take_all, map_push}
@@ -67,6 +67,15 @@ get_here xs i x l is = elim (slice_get_cases xs i).1 [ inl h ↦ h.2 ∙ ap Some
 
 pub some_at : {X : Type 0} (xs : List X) (i : ℕ) → i < length xs → (x : X) × (drop i xs ≡ x ∷ drop (i + 1) xs)
 some_at xs i l = elim (slice_get_cases xs i).1 [ inl h ↦ (h.0, drop_get xs i h.0 h.2) | inr h ↦ absurd (omega (arith, h.0, l)) ]
+
+pub kept_next : {X : Type 0} (f : X → Seen) (xs : List X) (mask : List Bool) (row : ℕ) (x : X) (b : Bool) (out next all : List Seen)
+    → next ≡ (if b then out ++ f x ∷ [] else out) → drop row xs ≡ x ∷ drop (row + 1) xs → row < length mask → get_or mask row false ≡ b
+    → out ++ kept (map f (drop row xs)) (map (λ m. logical m) (drop row mask)) ≡ all
+    → next ++ kept (map f (drop (row + 1) xs)) (map (λ m. logical m) (drop (row + 1) mask)) ≡ all
+kept_next f xs mask row x true out next all n e l t h =
+    ap (λ v. v ++ kept (map f (drop (row + 1) xs)) (map (λ m. logical m) (drop (row + 1) mask))) n ∙ kept_true f xs mask row x out all e l t h
+kept_next f xs mask row x false out next all n e l t h =
+    ap (λ v. v ++ kept (map f (drop (row + 1) xs)) (map (λ m. logical m) (drop (row + 1) mask))) n ∙ kept_false f xs mask row x out all e l t h
 
 pub kept_pushed : {X : Type 0} (f : X → Seen) (xs : List X) (mask : List Bool) (row : ℕ) (x : X) (out next : List X) (all : List Seen)
     → next ≡ out ++ x ∷ [] → drop row xs ≡ x ∷ drop (row + 1) xs → row < length mask → get_or mask row false ≡ true

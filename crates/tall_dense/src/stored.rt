@@ -1,5 +1,5 @@
 //! Values that a column keeps in a vector, and what is done with such a vector.
-ghost use Rattle.std.specs.Prelude.{◌≡◌, ◌<◌, ◌≤◌, ◌++◌, [], ◌∷◌, IfOk, MatchResult, Option, Some, length, map, slice_get};
+ghost use Rattle.std.specs.Prelude.{◌≡◌, ◌<◌, ◌≤◌, ◌++◌, [], ◌∷◌, IfOk, MatchResult, Some, if◌then◌else◌, length, map, slice_get};
 ghost use Rattle.std.specs.List.{slice_range};
 ghost use Rattle.tall_value.specs.declared.class.Class.{Class};
 ghost use Rattle.tall_value.specs.declared.class.Class.TheVariants as class;
@@ -138,6 +138,16 @@ pub(crate) fn part<T: Stored>(
     Vec::from_slice(alloc, &items[from..to])
 }
 
+/// Adds a value that is marked at the end.
+fn add_if<T: Stored>(items: &mut Vec<T>, value: T, marked: bool) -> Result<(), AllocError>
+    ensures { IfOk result (λ _. map T.shown items.new.items ≡ (if marked then map T.shown items.old.items ++ T.shown value ∷ [] else map T.shown items.old.items)) }
+{
+    if marked {
+        add(items, value)?;
+    }
+    Ok(())
+}
+
 /// The values that a mask keeps.
 pub(crate) fn kept<T: Stored>(
     alloc: Global,
@@ -149,9 +159,7 @@ pub(crate) fn kept<T: Stored>(
 {
     let mut out = Vec::new(alloc);
     for row in 0..items.len() {
-        if mask[row] {
-            out.push(items[row])?;
-        }
+        add_if(&mut out, items[row], mask[row])?;
     }
     Ok(out)
 }
