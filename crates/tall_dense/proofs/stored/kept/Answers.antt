@@ -1,4 +1,4 @@
-use Rattle.std.proofs.Common.{◌<◌, ◌+◌, ap, sym, ◌∷◌, drop, length, arith, map, refl}
+use Rattle.std.proofs.Common.{◌<◌, ◌+◌, ap, sym, ◌∙◌, ◌∷◌, drop, length, arith, map, refl}
 use Rattle.std.proofs.lemmas.List.{length-map, drop_more}
 use Rattle.tall_value.specs.Cells.{logical}
 use Rattle.tall_dense.proofs.Lists.{kept_next}
