@@ -1,10 +1,9 @@
 pub mod FirstScript
-pub mod Tasks
 pub mod Status
 pub mod Answer
 pub mod Data
 pub mod Evaluation
+pub mod Tasks
 pub mod Blocks
 pub mod Openings
-pub mod AnswerRows
 pub mod OpeningsRows
