@@ -12,3 +12,5 @@ pub mod WholeFile
 pub mod Causes
 pub mod StoreTold
 pub mod Reading
+pub mod Asking
+pub mod ScriptTold

@@ -1,25 +1,25 @@
--- What a buffer has of a file, read by read.
-use Rattle.std.proofs.Common.{ℕ, ◌+◌, ◌-◌, ◌≤◌, ◌≡◌, ◌∙◌, List, ◌++◌, length, take, drop, subst, sym, ap, drop_at, length-take-le, le_refl}
-use Rattle.std.specs.Prelude.{Option}
-use Rattle.std.specs.Io.KnownBytes.{Consumes}
-use Rattle.std.proofs.KnownBytes.{Consumes-trans}
-use Rattle.std.proofs.lemmas.Slice.{take-put_mid_below}
-use borrow.Rule.Slice.PartMut.{put_mid, post_of}
-use lib.Seq.{take-add, take-append-le}
+-- What a text has of a file, read by read.
+use Rattle.std.proofs.Common.{ℕ, ◌≤◌, ◌≡◌, ◌∙◌, List, [], ◌++◌, length, take, subst, sym, ap, append-nil}
+use Rattle.std.specs.Prelude.{Option, Some, None, IfSome}
+use Rattle.std.specs.Io.KnownBytes.{Consumes, IsAtEnd}
+use Rattle.std.proofs.lemmas.List.{take_all}
+use Rattle.std.proofs.Math.Seq.{take-append_seam}
 
--- the front of a buffer into whose rest a piece was put
-front_of : (at count : ℕ) (buf piece : List ℕ) → at ≤ length buf → count ≤ length piece
-    → take (at + count) (put_mid at (length buf - at) buf piece) ≡ take at buf ++ take count piece
-front_of at count buf piece within fits =
-    let room = length buf - at in
-    let after = post_of at room buf in
-    let rest : take count (drop at (put_mid at room buf piece)) ≡ take count piece
-    = ap (take count) (drop_at (take at buf) (piece ++ after) at (length-take-le at buf within)) ∙ take-append-le count piece after fits in
-    let front : take at (put_mid at room buf piece) ≡ take at buf = take-put_mid_below at room buf piece at (le_refl at) within in
-    take-add at count (put_mid at room buf piece) ∙ ap (λ l. l ++ take count (drop at (put_mid at room buf piece))) front ∙ ap (λ l. take at buf ++ l) rest
+-- a read found the end of the file
+pub read_to_end : (limit : ℕ) (left left' left'' : Option (List ℕ)) (text piece : List ℕ) (count : ℕ) → Consumes left left' text
+    → Consumes left' left'' (take count piece) → count ≡ 0 → IsAtEnd left'' → length text ≤ limit → IfSome left (λ bytes. text ≡ take limit bytes)
+read_to_end limit None left' left'' text piece count read last none end fits = tt
+read_to_end limit (Some bytes) None left'' text piece count read last none end fits = absurd read
+read_to_end limit (Some bytes) (Some rest) None text piece count read last none end fits = absurd last
+read_to_end limit (Some bytes) (Some rest) (Some more) text piece count read last none end fits =
+    let over : rest ≡ [] = last ∙ ap (λ l. take count piece ++ l) end ∙ append-nil (take count piece) ∙ ap (λ n. take n piece) none in
+    let whole : bytes ≡ text = read ∙ ap (λ l. text ++ l) over ∙ append-nil text in
+    sym (ap (take limit) whole ∙ take_all limit text fits)
 
--- after the bytes up to a place, and a piece of what is left of the file, the buffer has the bytes up to the next place
-pub more_read : (a b c : Option (List ℕ)) (at count : ℕ) (buf piece : List ℕ) → at ≤ length buf → count ≤ length piece
-    → Consumes a b (take at buf) → Consumes b c (take count piece) → Consumes a c (take (at + count) (put_mid at (length buf - at) buf piece))
-more_read a b c at count buf piece within fits before now =
-    subst (Consumes a c) (sym (front_of at count buf piece within fits)) (Consumes-trans a b c _ _ before now)
+-- the text is as long as it may be
+pub read_to_limit : (limit : ℕ) (left left' : Option (List ℕ)) (text : List ℕ) → Consumes left left' text → length text ≡ limit
+    → IfSome left (λ bytes. text ≡ take limit bytes)
+read_to_limit limit None left' text read full = tt
+read_to_limit limit (Some bytes) None text read full = absurd read
+read_to_limit limit (Some bytes) (Some rest) text read full =
+    sym (ap (take limit) read ∙ subst (λ n. take n (text ++ rest) ≡ text) full (take-append_seam text rest))

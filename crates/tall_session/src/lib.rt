@@ -8,6 +8,7 @@ mod outcome;
 mod program;
 mod script;
 mod show;
+mod text;
 
 pub use outcome::{Fault, Outcome, Status};
 pub use program::run;
