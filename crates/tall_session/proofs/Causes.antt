@@ -1,6 +1,6 @@
 -- What an outcome blames, over two calls.
-use Rattle.std.proofs.Common.{ℕ, ◌≤◌, ◌<◌, ◌+◌, ◌-◌, ◌^◌, arith}
-use Rattle.tall_outside.specs.Count.{Rose, raised}
+use Rattle.std.proofs.Common.{ℕ, ◌≤◌, arith}
+use Rattle.tall_outside.specs.Count.{Rose}
 use Rattle.tall_store.specs.declared.faults.ReadingKind.{ReadingKind}
 use Rattle.tall_store.specs.declared.faults.ReadingKind.TheVariants as kind
 use Rattle.tall_store.specs.Causes.{Counts, IsLater}
@@ -27,10 +27,10 @@ fault_later : (g : f.Fault) (a b c : Counts) → IsLater a b → IsFaultExplaine
 fault_later fault.NoScript a b c l r = rose_later a.misses b.misses c.misses l.misses r
 fault_later (fault.NoFile line) a b c l r = rose_later a.misses b.misses c.misses l.misses r
 fault_later (fault.Reading line row k) a b c l r = missed_later k a b c l r
-fault_later fault.TooLong a b c l r = tt
-fault_later (fault.BadToken line place) a b c l r = tt
-fault_later (fault.TooDeep line) a b c l r = tt
-fault_later (fault.Syntax line) a b c l r = tt
+fault_later fault.TooLong a b c l r = r
+fault_later (fault.BadToken line place) a b c l r = r
+fault_later (fault.TooDeep line) a b c l r = r
+fault_later (fault.Syntax line) a b c l r = r
 fault_later fault.NotBuilt a b c l r = tt
 fault_later (fault.BadArgument line) a b c l r = tt
 fault_later (fault.NoHeader line) a b c l r = tt
@@ -42,7 +42,7 @@ explained_later (Fault g) a b c l r = fault_later g a b c l r
 explained_later CannotReadScript a b c l r = rose_later a.faults b.faults c.faults l.faults r
 explained_later CannotReadData a b c l r = rose_later a.faults b.faults c.faults l.faults r
 explained_later DataTooLarge a b c l r = r
-explained_later Nothing a b c l r = tt
+explained_later Nothing a b c l r = r
 explained_later (Sum n) a b c l r = tt
 explained_later Usage a b c l r = tt
 explained_later Memory a b c l r = tt

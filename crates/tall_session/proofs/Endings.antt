@@ -6,7 +6,7 @@ use Rattle.tall_store.specs.Causes.{Counts}
 use Rattle.tall_session.specs.Answer.{Answer, IsSettled, Shows, ShowsAll, Written, shown}
 use Rattle.std.specs.Prelude.{Option, Some, None, IfSome}
 use Rattle.tall_outside.specs.Shelf.{Files}
-use Rattle.tall_session.specs.Evaluation.{Agrees, IsExplained, Prints, WithinLimit, answer, outcome_of, script_name}
+use Rattle.tall_session.specs.Evaluation.{Agrees, ComesTo, IsAnswer, IsExplained, Stands, WithinLimit, script_name}
 use Rattle.tall_session.specs.declared.outcome.Status.{Status}
 use Rattle.tall_session.specs.declared.outcome.Status.TheVariants as status
 use Rattle.tall_session.specs.declared.outcome.Outcome.{Outcome}
@@ -60,14 +60,14 @@ take_none : (n : ℕ) → take {A = ℕ} n [] ≡ []
 take_none n = search rules
 
 -- what was printed is a front of what is due
-pub is_front : (due outcome : Outcome) (name : List ℕ) (how : Status) (before after : Written) → Prints outcome due
+pub is_front : (due outcome : Outcome) (name : List ℕ) (how : Status) (before after : Written) → Stands outcome due
     → Shows (shown name outcome) how before after → (n : ℕ) × Appends before.text after.text (take n (shown name due).text)
-is_front due outcome name how before after prints shows = by_outcome outcome prints shows.text
+is_front due outcome name how before after stands shows = by_outcome outcome stands shows.text
   where
     none : ((n : ℕ) × Appends before.text after.text (take n [])) → (m : ℕ) × Appends before.text after.text (take m (shown name due).text)
     none p = (0, subst (Appends before.text after.text) (take_none p.0) p.1)
 
-    by_outcome : (o : Outcome) → Prints o due → ((n : ℕ) × Appends before.text after.text (take n (shown name o).text))
+    by_outcome : (o : Outcome) → Stands o due → ((n : ℕ) × Appends before.text after.text (take n (shown name o).text))
         → (n : ℕ) × Appends before.text after.text (take n (shown name due).text)
     by_outcome (Sum n) a p = subst (λ o. (n : ℕ) × Appends before.text after.text (take n (shown name o).text)) (sym a) p
     by_outcome CannotReadScript a p = none p
@@ -78,34 +78,43 @@ is_front due outcome name how before after prints shows = by_outcome outcome pri
     by_outcome (Fault f) a p = none p
     by_outcome Nothing a p = none p
 
+-- an answer is what is shown of what is due
+answer_of : (P : Answer → Type 0) (files : Files) (words : List (List ℕ)) (answer : Answer)
+    → ((due : Outcome) → ComesTo files words due → P (shown (script_name words) due)) → IsAnswer files words answer → P answer
+answer_of P files words answer due_has is = subst P (sym is.2) (due_has is.0 is.1)
+
 -- the clauses of the run, over a shelf that may tell what it holds
 pub run_completes : {P Q : Type 0} (held : Option Files) (words : List (List ℕ)) (outcome : Outcome) (name : List ℕ) (how : Status)
     (before after : Written) (counts counts' : Counts) → name ≡ script_name words
-    → IfSome held (λ files. WithinLimit files → Agrees outcome (outcome_of files words))
+    → IfSome held (λ files. (due : Outcome) → ComesTo files words due → WithinLimit files → Agrees outcome due)
     → IfSome held (λ files. WithinLimit files → outcome ≢ DataTooLarge) → IsExplained outcome counts counts'
     → (how ≡ status.Write → P ⊎ Q) → Shows (shown name outcome) how before after
     → IfSome held (λ files. WithinLimit files → (Rose counts.faults counts'.faults → ⊥) → (P → ⊥) → (Q → ⊥)
-    → (how ≡ status.Memory) ⊎ ShowsAll (answer files words) how before after)
+    → (answer : Answer) → IsAnswer files words answer → (how ≡ status.Memory) ⊎ ShowsAll answer how before after)
 run_completes None words outcome name how before after counts counts' named told fits explained written shows = tt
 run_completes (Some files) words outcome name how before after counts counts' named told fits explained written shows =
-    λ within calm out err. completes (outcome_of files words) outcome (script_name words) how before after counts counts' (told within) (fits within)
+    λ within calm out err answer. answer_of (λ a. (how ≡ status.Memory) ⊎ ShowsAll a how before after) files words answer
+    (λ due comes. completes due outcome (script_name words) how before after counts counts' (told due comes within) (fits within)
     explained calm (λ write. elim (written write) [ inl p ↦ out p | inr q ↦ err q ])
-    (subst (λ n. Shows (shown n outcome) how before after) named shows)
+    (subst (λ n. Shows (shown n outcome) how before after) named shows))
 
 pub run_settles : (held : Option Files) (words : List (List ℕ)) (outcome : Outcome) (name : List ℕ) (how : Status) (before after : Written)
-    → name ≡ script_name words → IfSome held (λ files. WithinLimit files → Agrees outcome (outcome_of files words))
+    → name ≡ script_name words
+    → IfSome held (λ files. (due : Outcome) → ComesTo files words due → WithinLimit files → Agrees outcome due)
     → Shows (shown name outcome) how before after
-    → IfSome held (λ files. WithinLimit files → IsSettled how → ShowsAll (answer files words) how before after)
+    → IfSome held (λ files. WithinLimit files → IsSettled how → (answer : Answer) → IsAnswer files words answer → ShowsAll answer how before after)
 run_settles None words outcome name how before after named told shows = tt
 run_settles (Some files) words outcome name how before after named told shows =
-    λ within settled. settles (outcome_of files words) outcome (script_name words) how before after (told within)
-    (subst (λ n. Shows (shown n outcome) how before after) named shows) settled
+    λ within settled answer. answer_of (λ a. ShowsAll a how before after) files words answer
+    (λ due comes. settles due outcome (script_name words) how before after (told due comes within)
+    (subst (λ n. Shows (shown n outcome) how before after) named shows) settled)
 
 pub run_fronts : (held : Option Files) (words : List (List ℕ)) (outcome : Outcome) (name : List ℕ) (how : Status) (before after : Written)
-    → name ≡ script_name words → IfSome held (λ files. Prints outcome (outcome_of files words))
+    → name ≡ script_name words → IfSome held (λ files. (due : Outcome) → ComesTo files words due → Stands outcome due)
     → Shows (shown name outcome) how before after
-    → IfSome held (λ files. (n : ℕ) × Appends before.text after.text (take n (answer files words).text))
-run_fronts None words outcome name how before after named printed shows = tt
-run_fronts (Some files) words outcome name how before after named printed shows =
-    is_front (outcome_of files words) outcome (script_name words) how before after printed
-    (subst (λ n. Shows (shown n outcome) how before after) named shows)
+    → IfSome held (λ files. (answer : Answer) → IsAnswer files words answer → (n : ℕ) × Appends before.text after.text (take n answer.text))
+run_fronts None words outcome name how before after named stands shows = tt
+run_fronts (Some files) words outcome name how before after named stands shows =
+    λ answer. answer_of (λ a. (n : ℕ) × Appends before.text after.text (take n a.text)) files words answer
+    (λ due comes. is_front due outcome (script_name words) how before after (stands due comes)
+    (subst (λ n. Shows (shown n outcome) how before after) named shows))

@@ -54,6 +54,10 @@ opens_twice (Some names) (Some some) (Some all) name (inl h) (inr g) = inr (inl 
 opens_twice (Some names) (Some some) (Some all) name (inr h) (inr g) =
     inr (inr (g ∙ ap (λ ns. ns ++ name ∷ []) h ∙ append_assoc names (name ∷ []) (name ∷ [])))
 
+-- no opening
+pub opens_none : (before now : Option Names) (name : List ℕ) → now ≡ before → OpensTwice name before now
+opens_none before now name e = inl (adds_none before now e)
+
 -- one opening alone
 pub opens_one : (before now after : Option Names) (name : List ℕ) → OpensOnce name before now → after ≡ now → OpensTwice name before after
 opens_one before now after name (inl h) e = inl (subst (λ n. Adds [] before n) (sym e) h)

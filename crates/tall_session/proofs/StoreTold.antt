@@ -47,6 +47,18 @@ is_within files whole = by_file (file_in files data_name) whole
     by_file None w = tt
     by_file (Some bytes) w = small (length bytes) w
 
+-- what the data come to is due, where no file is too long
+pub data_told : (held : Option Files) (o : SeenOptions) (store : SeenStore) (lines : Lines) (outcome : Outcome) → o ≡ data_options
+    → IfSome held (λ files. IsWithin files o → Opens (opening files o) (Ok store))
+    → IfSome held (λ files. WithinLimit files → opening files data_options ≡ Ok store → Agrees outcome (store_outcome files lines (Ok store)))
+    → IfSome held (λ files. WithinLimit files → Agrees outcome (data_outcome files lines))
+data_told None o store lines outcome same opened told = tt
+data_told (Some files) o store lines outcome same opened told =
+    λ within.
+    let made : opening files data_options ≡ Ok store
+    = subst (λ (q : SeenOptions). opening files q ≡ Ok store) same (opened (subst (IsWithin files) (sym same) (within data_name))) in
+    subst (λ r. Agrees outcome (store_outcome files lines r)) (sym made) (told within made)
+
 -- what is printed is due, however long the file is
 pub data_printed : (held : Option Files) (o : SeenOptions) (store : SeenStore) (lines : Lines) (outcome : Outcome) → o ≡ data_options
     → IfSome held (λ files. IsWithin files o → Opens (opening files o) (Ok store))

@@ -13,7 +13,7 @@ ghost use Rattle.tall_session.specs.FirstScript.{data_name};
 ghost use Rattle.tall_session.specs.Openings.{OpensOnce};
 ghost use Rattle.tall_session.specs.Data.{differs, file_outcome, file_sum, rest_outcome, sum_from};
 ghost use Rattle.tall_store.specs.Causes.{opening_counts, shelf_counts};
-ghost use Rattle.tall_session.specs.Evaluation.{Agrees, IsExplained, IsSum, Prints, WithinLimit};
+ghost use Rattle.tall_session.specs.Evaluation.{Agrees, IsExplained, IsOfData, IsSum, Prints, WithinLimit};
 ghost use Rattle.tall_session.specs.Blocks.{IfReading, NotOpenedAs, RefusedAs, place_at};
 
 use crate::column::column_clamp;
@@ -57,7 +57,7 @@ fn stopped<'s, S: Shelf, K: OpenedFile>(cutter: &Cutter<'s, S, K>) -> Outcome
     ensures stopped { (due : _) → Agrees result due }
     ensures explained { IsExplained result (opening_counts K.OpenedFile) (shelf_counts S.Shelf (cutter_shelf cutter.now)) }
     ensures longer { result ≡ Outcome.DataTooLarge → IfSome K.size (λ size. 2 ^ 50 < size) }
-    ensures command { result ≢ Outcome.Usage }
+    ensures inside { IsOfData result }
     ensures whole { IsSum result → ⊥ }
 {
     match cutter.cause() {
@@ -102,7 +102,7 @@ fn sum_blocks<'s, S: Shelf, K: OpenedFile>(
     ensures told { IfSome (cutter_left cutter.old) (λ records. Agrees result (rest_outcome line (sum_from store.now (place_at store.now variable) (pos 0) 1 records))) }
     ensures explained { IsExplained result (opening_counts K.OpenedFile) (shelf_counts S.Shelf (cutter_shelf cutter.new)) }
     ensures longer { result ≡ Outcome.DataTooLarge → IfSome K.size (λ size. 2 ^ 50 < size) }
-    ensures command { result ≢ Outcome.Usage }
+    ensures inside { IsOfData result }
     ensures whole { IsSum result → IfSome K.size (λ size. counted size ≤ 2 ^ 50) }
 {
     let mut sum = 0i16;
@@ -148,7 +148,7 @@ fn sum_left<'s, S: Shelf, K: OpenedFile>(
     ensures told { IfSome (cutter_left cutter.old) (λ records. Agrees result (rest_outcome line (file_sum store.now (place_at store.now variable) records))) }
     ensures explained { IsExplained result (opening_counts K.OpenedFile) (shelf_counts S.Shelf (cutter_shelf cutter.new)) }
     ensures longer { result ≡ Outcome.DataTooLarge → IfSome K.size (λ size. 2 ^ 50 < size) }
-    ensures command { result ≢ Outcome.Usage }
+    ensures inside { IsOfData result }
     ensures whole { IsSum result → IfSome K.size (λ size. counted size ≤ 2 ^ 50) }
 {
     match cutter.first_record() {
@@ -199,7 +199,7 @@ pub(crate) fn sum_file<'s, S: Shelf, K: OpenedFile>(
     ensures explained { IsExplained outcome.new (opening_counts K.OpenedFile) (shelf_counts S.Shelf result.shelf.now) }
     ensures within { IfSome K.held (λ files. WithinLimit files → outcome.new ≢ Outcome.DataTooLarge) }
     ensures whole { IsSum outcome.new → IfSome K.size (λ size. counted size ≤ 2 ^ 50) }
-    ensures command { outcome.new ≢ Outcome.Usage }
+    ensures inside { IsOfData outcome.new }
     ensures opens { OpensOnce data_name (S.opened lent.entry.shelf.now) (S.opened result.shelf.now) }
 {
     match open_feed::<S, K>(lent, DATA_NAME, FILE_LIMIT) {

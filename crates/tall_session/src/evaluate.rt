@@ -1,6 +1,6 @@
 //! The evaluation: what words over the files of a shelf come to.
 
-ghost use Rattle.std.specs.Prelude.{◌≡◌, ◌≢◌, ◌<◌, ◌≤◌, ◌^◌, ◌↔◌, IfOk, IfSome, IsNone, Some, Ok, length, map, string_bytes};
+ghost use Rattle.std.specs.Prelude.{◌≡◌, ◌≢◌, ◌<◌, ◌≤◌, ◌^◌, ◌↔◌, IfOk, IfSome, IsNone, Some, Ok, length, map, option_map, string_bytes};
 ghost use Rattle.tall_outside.specs.Shelf.{file_in};
 ghost use Rattle.tall_value.specs.declared.class.Class.TheVariants.{Int16};
 ghost use Rattle.tall_cut.specs.Asked.{size_in};
@@ -12,14 +12,14 @@ ghost use Rattle.tall_store.specs.Options.{options_seen};
 ghost use Rattle.tall_store.specs.Stores.{IsStore, format_at};
 ghost use Rattle.tall_session.specs.Blocks.{NotMadeAs, place_at};
 ghost use Rattle.tall_session.specs.Data.{data_options, data_outcome, file_outcome, store_outcome};
-ghost use Rattle.tall_session.specs.Evaluation.{Agrees, IsExplained, IsSum, Prints, WithinLimit, command, outcome_of, script_outcome};
+ghost use Rattle.tall_session.specs.Evaluation.{Agrees, ComesTo, IsExplained, IsOfData, IsSum, Prints, ScriptComesTo, SomeAsk, Stands, WithinLimit, command, task_outcome};
 ghost use Rattle.tall_session.specs.FirstScript.{data_name};
-ghost use Rattle.tall_session.specs.Tasks.{lines_seen};
+ghost use Rattle.tall_session.specs.Tasks.{lines_seen, seen_task};
 ghost use Rattle.tall_session.specs.Openings.{OpensInTurn, OpensOnce, OpensTwice, RunOpens};
 
 use crate::data::sum_file;
 use crate::outcome::{Fault, Outcome};
-use crate::script::{FIRST_LINES, Lines, is_first_script, read_front};
+use crate::script::{Lines, Task, read_task};
 use std::alloc::{AllocError, Global};
 use std::marker::Brand;
 use tall_cut::{Lent, ReadSize};
@@ -66,7 +66,7 @@ fn sum_data<S: Shelf>(
     ensures explained { IsExplained result (shelf_counts S.Shelf shelf.old) (shelf_counts S.Shelf shelf.new) }
     ensures within { IfSome (S.held shelf.old) (λ files. WithinLimit files → result ≢ Outcome.DataTooLarge) }
     ensures whole { IsSum result → IfSome (size_in (S.held shelf.old) data_name) (λ size. counted size ≤ 2 ^ 50) }
-    ensures command { result ≢ Outcome.Usage }
+    ensures inside { IsOfData result }
     ensures held { S.held shelf.new ≡ S.held shelf.old }
     ensures opens { OpensOnce data_name (S.opened shelf.old) (S.opened shelf.new) }
 {
@@ -102,7 +102,7 @@ fn evaluate_store<S: Shelf>(
     ensures explained { IsExplained result (shelf_counts S.Shelf shelf.old) (shelf_counts S.Shelf shelf.new) }
     ensures within { IfSome (S.held shelf.old) (λ files. WithinLimit files → result ≢ Outcome.DataTooLarge) }
     ensures whole { IsSum result → IfSome (size_in (S.held shelf.old) data_name) (λ size. counted size ≤ 2 ^ 50) }
-    ensures command { result ≢ Outcome.Usage }
+    ensures inside { IsOfData result }
     ensures held { S.held shelf.new ≡ S.held shelf.old }
     ensures opens { OpensOnce data_name (S.opened shelf.old) (S.opened shelf.new) }
 {
@@ -124,7 +124,7 @@ fn evaluate_data<S: Shelf>(alloc: Global, shelf: &mut S, lines: Lines) -> Outcom
     ensures printed { IfSome (S.held shelf.old) (λ files. Prints result (data_outcome files (lines_seen lines))) }
     ensures explained { IsExplained result (shelf_counts S.Shelf shelf.old) (shelf_counts S.Shelf shelf.new) }
     ensures within { IfSome (S.held shelf.old) (λ files. WithinLimit files → result ≢ Outcome.DataTooLarge) }
-    ensures command { result ≢ Outcome.Usage }
+    ensures inside { IsOfData result }
     ensures held { S.held shelf.new ≡ S.held shelf.old }
     ensures opens { OpensTwice data_name (S.opened shelf.old) (S.opened shelf.new) }
 {
@@ -137,11 +137,29 @@ fn evaluate_data<S: Shelf>(alloc: Global, shelf: &mut S, lines: Lines) -> Outcom
     }
 }
 
+/// What a task comes to, over the files of a shelf.
+#[tactic(auto, using(crate::proofs::Openings::opens_none, crate::proofs::ScriptTold::data_stands))]
+fn evaluate_task<S: Shelf>(alloc: Global, shelf: &mut S, task: Task) -> Outcome
+    ensures told { IfSome (S.held shelf.old) (λ files. WithinLimit files → Agrees result (task_outcome files (Ok (seen_task task)))) }
+    ensures stands { IfSome (S.held shelf.old) (λ files. Stands result (task_outcome files (Ok (seen_task task)))) }
+    ensures explained { SomeAsk (Ok (seen_task task)) (shelf_counts S.Shelf shelf.old) → IsExplained result (shelf_counts S.Shelf shelf.old) (shelf_counts S.Shelf shelf.new) }
+    ensures within { IfSome (S.held shelf.old) (λ files. WithinLimit files → result ≢ Outcome.DataTooLarge) }
+    ensures command { result ≢ Outcome.Usage }
+    ensures held { S.held shelf.new ≡ S.held shelf.old }
+    ensures opens { OpensTwice data_name (S.opened shelf.old) (S.opened shelf.new) }
+{
+    match task {
+        Task::Nothing => Outcome::Nothing,
+        Task::NativeSum(lines) => evaluate_data(alloc, shelf, lines),
+        Task::NotBuilt => Outcome::Fault(Fault::NotBuilt),
+    }
+}
+
 /// What the script of this name comes to.
-#[tactic(auto, using(crate::proofs::Openings::script_opens, crate::proofs::Openings::data_opens))]
+#[tactic(auto, using(crate::proofs::Openings::script_opens, crate::proofs::Openings::data_opens, crate::proofs::Causes::explained_later))]
 fn evaluate_script<S: Shelf>(alloc: Global, name: &str, shelf: &mut S) -> Outcome
-    ensures told { IfSome (S.held shelf.old) (λ files. WithinLimit files → Agrees result (script_outcome files (file_in files name.now))) }
-    ensures printed { IfSome (S.held shelf.old) (λ files. Prints result (script_outcome files (file_in files name.now))) }
+    ensures told { IfSome (S.held shelf.old) (λ files. (due : _) → ScriptComesTo files (file_in files name.now) due → WithinLimit files → Agrees result due) }
+    ensures stands { IfSome (S.held shelf.old) (λ files. (due : _) → ScriptComesTo files (file_in files name.now) due → Stands result due) }
     ensures explained { IsExplained result (shelf_counts S.Shelf shelf.old) (shelf_counts S.Shelf shelf.new) }
     ensures within { IfSome (S.held shelf.old) (λ files. WithinLimit files → result ≢ Outcome.DataTooLarge) }
     ensures command { result ≢ Outcome.Usage }
@@ -154,30 +172,35 @@ fn evaluate_script<S: Shelf>(alloc: Global, name: &str, shelf: &mut S) -> Outcom
         Opening::Failed => return Outcome::CannotReadScript,
         Opening::Memory => return Outcome::Memory,
     }
-    // A script that fills the buffer is longer than the one that runs today.
-    let mut buffer = [0u8; 256];
-    let Ok(length) = read_front(shelf, &mut buffer) else {
-        return Outcome::CannotReadScript;
-    };
-    if !is_first_script(&buffer[..length]) {
-        return Outcome::Fault(Fault::NotBuilt);
+    match read_task(alloc, shelf) {
+        Ok(task) => evaluate_task(alloc, shelf, task),
+        Err(outcome) => outcome,
     }
-    evaluate_data(alloc, shelf, FIRST_LINES)
+}
+
+/// The script's name in the words: the second of two.
+pub fn command(words: &[String]) -> Option<&str>
+    ensures { option_map (λ name. name.now) result ≡ command (map (λ word. string_bytes word) words.now) }
+{
+    match words {
+        [_, name] => Some(name.as_str()),
+        _ => None,
+    }
 }
 
 /// What the words come to over the files of a shelf.
 #[tactic(auto, using(crate::proofs::Openings::adds_none))]
 pub fn evaluate<S: Shelf>(alloc: Global, words: &[String], shelf: &mut S) -> Outcome
-    ensures told { IfSome (S.held shelf.old) (λ files. WithinLimit files → Agrees result (outcome_of files (map (λ word. string_bytes word) words.now))) }
-    ensures printed { IfSome (S.held shelf.old) (λ files. Prints result (outcome_of files (map (λ word. string_bytes word) words.now))) }
+    ensures told { IfSome (S.held shelf.old) (λ files. (due : _) → ComesTo files (map (λ word. string_bytes word) words.now) due → WithinLimit files → Agrees result due) }
+    ensures stands { IfSome (S.held shelf.old) (λ files. (due : _) → ComesTo files (map (λ word. string_bytes word) words.now) due → Stands result due) }
     ensures explained { IsExplained result (shelf_counts S.Shelf shelf.old) (shelf_counts S.Shelf shelf.new) }
     ensures within { IfSome (S.held shelf.old) (λ files. WithinLimit files → result ≢ Outcome.DataTooLarge) }
     ensures usage { (result ≡ Outcome.Usage) ↔ IsNone (command (map (λ word. string_bytes word) words.now)) }
     ensures held { S.held shelf.new ≡ S.held shelf.old }
     ensures opens { RunOpens (command (map (λ word. string_bytes word) words.now)) (S.opened shelf.old) (S.opened shelf.new) }
 {
-    match words {
-        [_, name] => evaluate_script(alloc, name.as_str(), shelf),
-        _ => Outcome::Usage,
+    match command(words) {
+        Some(name) => evaluate_script(alloc, name, shelf),
+        None => Outcome::Usage,
     }
 }

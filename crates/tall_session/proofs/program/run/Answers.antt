@@ -12,4 +12,4 @@ returns-clause-settled g c =
 
 pub returns-clause-front : goal.returns-clause-front
 returns-clause-front g c =
-    run_fronts _ _ c.evaluate-outcome.result _ _ _ _ c.script_name.ensures c.evaluate-outcome.ensures.printed c.show.ensures.shows
+    run_fronts _ _ c.evaluate-outcome.result _ _ _ _ c.script_name.ensures c.evaluate-outcome.ensures.stands c.show.ensures.shows
