@@ -6,4 +6,6 @@ pub mod Evaluation
 pub mod Tasks
 pub mod Blocks
 pub mod Openings
+pub mod ScriptRows
+pub mod AnswerRows
 pub mod OpeningsRows
