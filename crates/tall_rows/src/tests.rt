@@ -10,6 +10,10 @@ use tall_session::{Status, run};
 const SCRIPT: &str =
     "ds = tabularTextDatastore('a.csv', 'TextscanFormats', {'%d16'});\nT = tall(ds);\ns = sum(T.x, 'native');\ns = gather(s)\n";
 
+/// The same statements from line 3 on, in another spelling.
+const SPREAD: &str =
+    "% the sum of a column\n\n ds=(tabularTextDatastore(\"a.csv\",...\n'TextscanFormats',{'%d16'}));T = tall(ds); % all of it\n\n;\n s = sum(T.x, 'native'); s = gather ( s ),";
+
 const USAGE: &str = "tallrun: usage: tallrun [--workers N] SCRIPT\n";
 
 /// A run that is given, and what it has to come to.
@@ -241,21 +245,197 @@ fn over_data<R: Threads + Sync + Abort>(
     ending(rt, alloc, GO, &mut shelf, out, err)
 }
 
+/// What scripts in the language ask for, whatever their spelling.
+const SPELLINGS: &[Row] = &[
+    Row {
+        name: "an empty script",
+        words: GO,
+        files: &[("s.m", "")],
+        status: Status::Done,
+        text: "",
+        line: "",
+    },
+    Row {
+        name: "comments and separators alone",
+        words: GO,
+        files: &[("s.m", "% one\n\n  ;, % two")],
+        status: Status::Done,
+        text: "",
+        line: "",
+    },
+    Row {
+        name: "no line feed at the end",
+        words: GO,
+        files: &[
+            (
+                "s.m",
+                "ds = tabularTextDatastore('a.csv', 'TextscanFormats', {'%d16'});\nT = tall(ds);\ns = sum(T.x, 'native');\ns = gather(s)",
+            ),
+            ("a.csv", "x\n1\n"),
+        ],
+        status: Status::Done,
+        text: "s = int16 1\n",
+        line: "",
+    },
+    Row {
+        name: "comments, joined lines, empty lines, and commas that keep what is shown",
+        words: GO,
+        files: &[("s.m", SPREAD), ("a.csv", "x\n30000\n5000\n-1000\n")],
+        status: Status::Done,
+        text: "s = int16 31767\n",
+        line: "",
+    },
+    Row {
+        name: "the last statement not shown",
+        words: GO,
+        files: &[
+            (
+                "s.m",
+                "ds = tabularTextDatastore('a.csv', 'TextscanFormats', {'%d16'});\nT = tall(ds);\ns = sum(T.x, 'native');\ns = gather(s);\n",
+            ),
+            ("a.csv", "x\n1\n"),
+        ],
+        status: Status::Fault,
+        text: "",
+        line: "tallrun: not built\n",
+    },
+    Row {
+        name: "a statement more",
+        words: GO,
+        files: &[
+            (
+                "s.m",
+                "ds = tabularTextDatastore('a.csv', 'TextscanFormats', {'%d16'});\nT = tall(ds);\ns = sum(T.x, 'native');\ns = gather(s)\ns\n",
+            ),
+            ("a.csv", "x\n1\n"),
+        ],
+        status: Status::Fault,
+        text: "",
+        line: "tallrun: not built\n",
+    },
+    Row {
+        name: "a field that spells no number, at the line of the datastore",
+        words: GO,
+        files: &[("s.m", SPREAD), ("a.csv", "x\n1\nz\n")],
+        status: Status::Fault,
+        text: "",
+        line: "tallrun: line 3: row 2: variable x: not a number\n",
+    },
+    Row {
+        name: "a header without the variable, at the line of the variable",
+        words: GO,
+        files: &[("s.m", SPREAD), ("a.csv", "y\n1\n")],
+        status: Status::Fault,
+        text: "",
+        line: "tallrun: line 7: undefined x\n",
+    },
+    Row {
+        name: "a token that no rule has",
+        words: GO,
+        files: &[("s.m", "x = 5 $ 3")],
+        status: Status::Fault,
+        text: "",
+        line: "tallrun: line 1: bad token at 7\n",
+    },
+    Row {
+        name: "a parenthesis left open: no statement before it is run",
+        words: GO,
+        files: &[("s.m", "a = 1\nx = (1 + 2;")],
+        status: Status::Fault,
+        text: "",
+        line: "tallrun: line 2: syntax\n",
+    },
+];
+
+/// A script made of texts, each so many times, and the status and line that it gives; nothing is printed.
+struct Made {
+    name: &'static str,
+    parts: &'static [(&'static str, u32)],
+    status: Status,
+    line: &'static str,
+}
+
+const TOO_DEEP: &str = "tallrun: line 1: nested above 64\n";
+
+const NOT_BUILT: &str = "tallrun: not built\n";
+
+/// Scripts at the limits of the language.
+const LIMITS: &[Made] = &[
+    Made {
+        name: "65 parentheses open",
+        parts: &[("(", 65)],
+        status: Status::Fault,
+        line: TOO_DEEP,
+    },
+    Made {
+        name: "64 parentheses round a number",
+        parts: &[("x = ", 1), ("(", 64), ("1", 1), (")", 64)],
+        status: Status::Fault,
+        line: NOT_BUILT,
+    },
+    Made {
+        name: "64 signs before a number",
+        parts: &[("x = ", 1), ("-", 64), ("1", 1)],
+        status: Status::Fault,
+        line: TOO_DEEP,
+    },
+    Made {
+        name: "63 signs before a number",
+        parts: &[("x = ", 1), ("-", 63), ("1", 1)],
+        status: Status::Fault,
+        line: NOT_BUILT,
+    },
+    Made {
+        name: "the longest script",
+        parts: &[(" ", 1_048_576)],
+        status: Status::Done,
+        line: "",
+    },
+    Made {
+        name: "a byte more",
+        parts: &[(" ", 1_048_577)],
+        status: Status::Fault,
+        line: "tallrun: script above 1048576 bytes\n",
+    },
+];
+
+/// The texts one after the other, each so many times.
+fn made_of(alloc: Global, parts: &[(&str, u32)]) -> Result<String, Fail> {
+    let mut made = String::new(alloc);
+    for (text, times) in parts {
+        for _ in 0..*times {
+            made.push_str(text)?;
+        }
+    }
+    Ok(made)
+}
+
+/// Runs a script that is made, and compares all that it shows.
+fn check_made<R: Threads + Sync + Abort>(rt: &R, alloc: Global, made: &Made) -> Result<(), Fail> {
+    let script = made_of(alloc, made.parts)?;
+    let mut shelf = shelf_of(rt, alloc, &[("s.m", script.as_str())])?;
+    let mut out = MemSink::new(alloc);
+    let mut err = MemSink::new(alloc);
+    let status = ending(rt, alloc, GO, &mut shelf, &mut out, &mut err)?;
+    let name = made.name;
+    assert_eq!(rt; status, made.status, "{name}");
+    assert!(rt; out.bytes().is_empty(), "{name}");
+    assert_eq!(rt; err.bytes(), made.line.as_bytes(), "{name}");
+    Ok(())
+}
+
 #[test]
-fn another_script_is_not_built(rt: HostRuntime) -> Result<(), Fail> {
-    let longer = format!(in rt.alloc(); "{SCRIPT}s\n")?;
-    let shorter = &SCRIPT[..SCRIPT.len() - 1];
-    for (script, want) in [
-        (SCRIPT, Status::Done),
-        (shorter, Status::Done),
-        (longer.as_str(), Status::Fault),
-        ("", Status::Fault),
-        ("\n", Status::Fault),
-    ] {
-        let mut out = MemSink::new(rt.alloc());
-        let mut err = MemSink::new(rt.alloc());
-        let status = over_data(&rt, rt.alloc(), script, "x\n1\n", &mut out, &mut err)?;
-        assert_eq!(rt; status, want, "{script:?}");
+fn scripts_are_read_as_the_language_has_them(rt: HostRuntime) -> Result<(), Fail> {
+    for row in SPELLINGS {
+        check_row(&rt, rt.alloc(), row)?;
+    }
+    Ok(())
+}
+
+#[test]
+fn scripts_have_limits(rt: HostRuntime) -> Result<(), Fail> {
+    for made in LIMITS {
+        check_made(&rt, rt.alloc(), made)?;
     }
     Ok(())
 }
