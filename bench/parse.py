@@ -53,7 +53,7 @@ def processor_seconds(path, turns):
 
 def main():
     parser = argparse.ArgumentParser()
-    parser.add_argument("--turns", type=int, default=5)
+    parser.add_argument("--turns", type=int, default=10)
     parser.add_argument("--runs", type=int, default=5)
     args = parser.parse_args()
     if not PROGRAM.exists():

@@ -2,15 +2,21 @@
 ghost use Rattle.std.specs.Prelude.{◌≡◌, ◌≤◌};
 ghost use Rattle.std.specs.List.{AllByRecursion};
 ghost use Rattle.tall_expr.specs.Gives.{IsSlice};
-ghost use Rattle.tall_grammar.specs.Lexemes.{lexeme_of, lexemes_of};
+ghost use Rattle.tall_grammar.specs.Lexemes.{is_text, lexeme_of, lexemes_of};
 ghost use Rattle.tall_grammar.specs.Refusals.{closes, limit, open_behind, opens, too_deep};
 
 use crate::places::bytes_of;
-use tall_expr::operators::is;
 use tall_lex::{Token, TokenKind};
 
 /// How many brackets and blocks may be open.
 const LIMIT: u32 = 64;
+
+/// Are the bytes these?
+fn is(bytes: &[u8], other: &[u8]) -> bool
+    ensures { result ≡ is_text bytes.now other.now }
+{
+    bytes == other
+}
 
 /// Does a bracket or a block open with this token?
 fn opens(text: &[u8], token: &Token) -> bool
