@@ -14,3 +14,4 @@ pub mod StoreTold
 pub mod Reading
 pub mod Asking
 pub mod ScriptTold
+pub mod OneAnswer
