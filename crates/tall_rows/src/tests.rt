@@ -232,19 +232,6 @@ fn refusals_give_their_lines(rt: HostRuntime) -> Result<(), Fail> {
     Ok(())
 }
 
-/// Runs the script over this data, and answers the status and the line on `err`.
-fn over_data<R: Threads + Sync + Abort>(
-    rt: &R,
-    alloc: Global,
-    script: &str,
-    data: &str,
-    out: &mut MemSink,
-    err: &mut MemSink,
-) -> Result<Status, Fail> {
-    let mut shelf = shelf_of(rt, alloc, &[("s.m", script), ("a.csv", data)])?;
-    ending(rt, alloc, GO, &mut shelf, out, err)
-}
-
 /// What scripts in the language ask for, whatever their spelling.
 const SPELLINGS: &[Row] = &[
     Row {
@@ -261,6 +248,31 @@ const SPELLINGS: &[Row] = &[
         files: &[("s.m", "% one\n\n  ;, % two")],
         status: Status::Done,
         text: "",
+        line: "",
+    },
+    Row {
+        name: "functions alone",
+        words: GO,
+        files: &[(
+            "s.m",
+            "function m(data, ~, store)\n  add(store, 'k', data.x);\nend\n",
+        )],
+        status: Status::Done,
+        text: "",
+        line: "",
+    },
+    Row {
+        name: "a function behind the statements",
+        words: GO,
+        files: &[
+            (
+                "s.m",
+                "ds = tabularTextDatastore('a.csv', 'TextscanFormats', {'%d16'});\nT = tall(ds);\ns = sum(T.x, 'native');\ns = gather(s)\nfunction m(data, ~, store)\n  add(store, 'k', data.x);\nend\n",
+            ),
+            ("a.csv", "x\n1\n"),
+        ],
+        status: Status::Done,
+        text: "s = int16 1\n",
         line: "",
     },
     Row {
