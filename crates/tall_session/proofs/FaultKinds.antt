@@ -1,5 +1,5 @@
 -- The kinds of faults that records have: none is that of a missing file.
-use Rattle.std.proofs.Common.{ℕ, ◌≡◌, ◌≢◌, ◌+◌, ◌^◌, List, [], ◌∷◌, ◌++◌, Bool, true, false, Option, Some, None, Ok, Err, Result, length, get_or, leb, ltb, subst, sym}
+use Rattle.std.proofs.Common.{ℕ, ◌+◌, ◌^◌, List, [], ◌∷◌, ◌++◌, Bool, true, false, Option, Some, None, Ok, Err, Result, length, get_or, leb, ltb}
 use Rattle.std.specs.Prelude.{ℤ, pos, if◌then◌else◌}
 use Rattle.std.specs.List.{filter_map, flat_map, cons_option}
 use Rattle.std.specs.Result.{result_err, result_map_both}
@@ -14,7 +14,7 @@ use Rattle.tall_value.specs.Classes.{least, greatest}
 use Rattle.tall_value.specs.Cells.{Seen, whole, double, text}
 use Rattle.tall_store.specs.declared.faults.ReadingFault.{ReadingFault}
 use Rattle.tall_store.specs.declared.faults.ReadingKind.{ReadingKind}
-use Rattle.tall_store.specs.declared.faults.ReadingKind.TheVariants.{NoFile, HeaderDiffers, TooManyRows, TooManyFields, BadField, BadText, NotWhole, Inexact}
+use Rattle.tall_store.specs.declared.faults.ReadingKind.TheVariants.{NoFile, TooManyRows, TooManyFields, BadText}
 use Rattle.tall_store.specs.declared.format.Format.{Format}
 use Rattle.tall_store.specs.declared.format.Format.TheVariants as format
 use Rattle.tall_store.specs.Fields.{field_value, is_missing, number_fault, spelled_double, spelled_integer, utf8_text}

@@ -1,8 +1,7 @@
 -- The first record of a file, and what the file comes to.
 use Rattle.std.proofs.Common.{ℕ, ◌≡◌, ◌<◌, ◌≤◌, ◌∙◌, List, [], ◌∷◌, length, true, false, refl, sym, ap, subst, arith}
-use Rattle.std.specs.Prelude.{ℤ, pos, Option, Some, None, IfSome, Result, Err}
+use Rattle.std.specs.Prelude.{pos, Option, Some, None, IfSome, Err}
 use Rattle.tall_cut.specs.Rows.{Fields, NoneLeft, TakesMany}
-use Rattle.tall_store.specs.declared.faults.ReadingFault.{ReadingFault}
 use Rattle.tall_store.specs.Headers.{is_one_record}
 use Rattle.tall_store.specs.Stores.{SeenStore}
 use Rattle.tall_session.specs.Data.{differs, file_sum, rest_outcome, sum_from}

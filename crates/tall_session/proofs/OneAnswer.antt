@@ -4,7 +4,7 @@ use Rattle.std.specs.Prelude.{Option, Some, None}
 use Rattle.tall_outside.specs.Shelf.{Files, file_in}
 use Rattle.tall_grammar.proofs.Enough as texts
 use Rattle.tall_session.specs.Answer.{Answer, shown}
-use Rattle.tall_session.specs.Evaluation.{CommandComesTo, ComesTo, IsAnswer, ScriptComesTo, asked, command, script_name, task_outcome}
+use Rattle.tall_session.specs.Evaluation.{CommandComesTo, IsAnswer, ScriptComesTo, asked, command, script_name, task_outcome}
 use Rattle.tall_session.specs.declared.outcome.Fault.TheVariants.{NoScript}
 use Rattle.tall_session.specs.declared.outcome.Outcome.{Outcome}
 use Rattle.tall_session.specs.declared.outcome.Outcome.TheVariants.{Usage, Fault}

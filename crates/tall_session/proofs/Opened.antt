@@ -1,22 +1,20 @@
 -- The datastore of the script, where the files are known: what it is, and what its one column comes to.
-use Rattle.std.proofs.Common.{ℕ, ◌≡◌, ◌∙◌, ◌<◌, ◌^◌, List, [], ◌∷◌, ◌++◌, Bool, true, false, Option, Some, None, Ok, Err, Result, length, get_or, refl, sym, ap, subst, leb, eqb}
-use Rattle.std.specs.Prelude.{ℤ, pos, drop, not, ◌&&◌, if◌then◌else◌}
-use Rattle.std.specs.List.{list_all, filter_map, flat_map}
-use Rattle.std.specs.Str.{bytes_eq, is_utf8}
-use Rattle.std.proofs.lemmas.List.{append-nil}
+use Rattle.std.proofs.Common.{ℕ, ◌≡◌, ◌∙◌, ◌^◌, List, [], ◌∷◌, Bool, true, false, Option, Some, None, Ok, Err, Result, length, refl, sym, ap, leb, eqb}
+use Rattle.std.specs.Prelude.{not, ◌&&◌, if◌then◌else◌}
+use Rattle.std.specs.List.{list_all}
+use Rattle.std.specs.Str.{is_utf8}
 use Rattle.std.proofs.lemmas.Bool.{eqb-true}
 use Rattle.tall_cut.specs.declared.cutter.ReadSize.TheVariants.{Rows}
 use Rattle.tall_outside.specs.Shelf.{Files, file_in}
 use Rattle.tall_cut.specs.Rows.{Fields, file_records}
-use Rattle.tall_value.specs.Cells.{amount}
 use Rattle.tall_store.specs.declared.format.Format.TheVariants as format
 use Rattle.tall_store.specs.declared.faults.StoreFault.{StoreFault}
 use Rattle.tall_store.specs.declared.faults.StoreFault.TheVariants.{BadArgument, NoHeader}
-use Rattle.tall_store.specs.Stores.{SeenStore, name_at, selected_names}
+use Rattle.tall_store.specs.Stores.{SeenStore}
 use Rattle.tall_store.specs.Names.{variable_names}
-use Rattle.tall_store.specs.Choices.{all_places, chosen_formats, place_of}
-use Rattle.tall_store.specs.Opening.{first_fields, opened_file, opened_first, opened_records, opened_variables, opening, store_of}
-use Rattle.tall_session.specs.FirstScript.{data_name, variable_name}
+use Rattle.tall_store.specs.Choices.{all_places}
+use Rattle.tall_store.specs.Opening.{first_fields, opened_file, opened_records, opened_variables, opening, store_of}
+use Rattle.tall_session.specs.FirstScript.{data_name}
 use Rattle.tall_session.specs.Data.{data_options}
 
 -- what the datastore of the script is over these files

@@ -1,5 +1,5 @@
 -- A block that is refused: what the run comes to, and that no count has to explain it.
-use Rattle.std.proofs.Common.{ℕ, ◌≡◌, List, Option, Some, None, Ok, Err, Result, sym, subst}
+use Rattle.std.proofs.Common.{ℕ, ◌≡◌, List, Option, Some, None, Err, sym, subst}
 use Rattle.std.specs.Prelude.{ℤ, pos, IfSome}
 use Rattle.tall_cut.specs.Rows.{Fields, TakesMany}
 use Rattle.tall_store.specs.declared.faults.ColumnsFault.{ColumnsFault}

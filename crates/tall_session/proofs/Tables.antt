@@ -1,6 +1,6 @@
 -- Tables of blocks: the column of a variable, and its native sum.
-use Rattle.std.proofs.Common.{ℕ, ◌≡◌, ◌<◌, ◌∙◌, length, get_or, List, sym, ap, subst, refl, map}
-use Rattle.std.specs.Prelude.{ℤ, Option, Some, None, Result, Ok, Err, option_map}
+use Rattle.std.proofs.Common.{ℕ, ◌≡◌, ◌<◌, ◌∙◌, length, List, sym, ap, refl}
+use Rattle.std.specs.Prelude.{ℤ, Option, Some, None, Ok, option_map}
 use Rattle.std.specs.List.{slice_get}
 use Rattle.std.proofs.lemmas.Option.{slice_get-get_or}
 use Rattle.tall_column.proofs.Lists.{get-map}

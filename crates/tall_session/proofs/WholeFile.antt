@@ -1,8 +1,8 @@
 -- What the script's data come to, where the files are known: the stored column of the one file is its records, block by
 -- block or at once.
-use Rattle.std.proofs.Common.{ℕ, ◌≡◌, ◌∙◌, ◌+◌, ◌<◌, List, [], ◌∷◌, ◌++◌, Bool, true, false, Option, Some, None, Ok, Err, Result, length, get_or, map, refl, sym, ap, subst, arith}
-use Rattle.std.specs.Prelude.{ℤ, pos, drop, not, ◌&&◌, if◌then◌else◌}
-use Rattle.std.specs.List.{filter_map, flat_map}
+use Rattle.std.proofs.Common.{ℕ, ◌≡◌, ◌∙◌, ◌+◌, ◌<◌, List, [], ◌∷◌, ◌++◌, true, Option, Some, None, Ok, Err, length, get_or, refl, sym, ap, subst, arith}
+use Rattle.std.specs.Prelude.{pos, drop, not, ◌&&◌, if◌then◌else◌}
+use Rattle.std.specs.List.{flat_map}
 use Rattle.std.specs.Str.{bytes_eq}
 use Rattle.std.proofs.lemmas.List.{append-nil, length-map}
 use Rattle.std.proofs.lemmas.List.Quantifiers.{position-Some}
@@ -10,7 +10,7 @@ use Rattle.std.proofs.lemmas.Iterator.Adapters.{position_from-zero}
 use Rattle.std.proofs.lemmas.Slice.Eq.{bytes_eq-Decides}
 use Rattle.tall_store.specs.declared.format.Format.TheVariants as format
 use Rattle.tall_outside.specs.Shelf.{Files, file_in}
-use Rattle.tall_cut.specs.Rows.{Fields, file_records}
+use Rattle.tall_cut.specs.Rows.{Fields}
 use Rattle.tall_value.specs.declared.class.Class.TheVariants.{Int16}
 use Rattle.tall_value.specs.Cells.{Seen}
 use Rattle.tall_value.specs.Columns.{cells, numbered}
@@ -21,11 +21,11 @@ use Rattle.tall_store.specs.Formats.{class_of_format}
 use Rattle.tall_store.specs.Choices.{place_of}
 use Rattle.tall_store.specs.Headers.{begins_with, is_same_record}
 use Rattle.tall_store.specs.ReadingOrder.{first_reading_fault}
-use Rattle.tall_store.specs.Records.{DataRecord, all_records, data_in, numbered_records, records_from, records_in}
-use Rattle.tall_store.specs.Stored.{cells_at, fault_when, file_faults, file_faults_from, first_fault, record_faults, stored_column, unless_fault}
+use Rattle.tall_store.specs.Records.{all_records, data_in, numbered_records, records_from, records_in}
+use Rattle.tall_store.specs.Stored.{cells_at, fault_when, file_faults, file_faults_from, record_faults, stored_column, unless_fault}
 use Rattle.tall_session.specs.FirstScript.{data_name, variable_name}
 use Rattle.tall_session.specs.Blocks.{place_at}
-use Rattle.tall_session.specs.Data.{cell_outcome, differs, file_outcome, file_sum, rest_outcome, sum_from, sum_on, sum_outcome}
+use Rattle.tall_session.specs.Data.{differs, file_outcome, file_sum, rest_outcome, sum_from, sum_on, sum_outcome}
 use Rattle.tall_session.proofs.Opened.{IsOpened}
 
 -- ---- small equations

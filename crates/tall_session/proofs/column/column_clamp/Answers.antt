@@ -1,4 +1,4 @@
-use Rattle.std.proofs.Common.{rules, ◌≡◌, ◌∙◌, ap, pos, negsuc}
+use Rattle.std.proofs.Common.{◌∙◌}
 use Rattle.tall_clamp.specs.Clamps.{apply}
 use Rattle.tall_session.proofs.Blocks.{row_step}
 use Rattle.tall_session.proofs.column.column_clamp.Goals as goal

@@ -1,4 +1,4 @@
-use Rattle.std.proofs.Common.{ℤ, ◌≡◌, ◌≤ℤ◌, ◌+◌, drop, pos, negsuc}
+use Rattle.std.proofs.Common.{ℤ, ◌≡◌, ◌≤ℤ◌, drop, pos, negsuc}
 use Rattle.tall_clamp.specs.Clamps.{apply}
 use Rattle.tall_session.specs.Data.{sum_on}
 use Rattle.tall_session.proofs.column.column_clamp.Given as goal

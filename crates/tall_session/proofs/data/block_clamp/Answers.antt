@@ -1,4 +1,4 @@
-use Rattle.std.proofs.Common.{rules, ◌≡◌, ◌∙◌, ap, sym}
+use Rattle.std.proofs.Common.{◌∙◌, ap, sym}
 use Rattle.std.specs.Prelude.{Ok}
 use Rattle.tall_session.proofs.Tables.{table_sum}
 use Rattle.tall_session.proofs.data.block_clamp.Goals as goal

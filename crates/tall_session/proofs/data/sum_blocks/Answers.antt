@@ -1,5 +1,5 @@
 use Rattle.std.proofs.Common.{rules, ◌≡◌, ◌+◌, ◌≤◌, ◌≤ℤ◌, ◌∙◌, ◌^◌, length, sym, ap, subst, negsuc, pos, arith}
-use Rattle.std.specs.Prelude.{Ok, Err, IfSome}
+use Rattle.std.specs.Prelude.{Ok}
 use mir.Syntax.{w16}
 use mir.Val.{to_z, of_z}
 use Rattle.tall_cut.specs.Cuts.{cutter_left}

@@ -1,4 +1,4 @@
-use Rattle.std.proofs.Common.{◌≡◌, ◌≤◌, ◌-◌, ◌^◌}
+use Rattle.std.proofs.Common.{◌≤◌, ◌-◌, ◌^◌}
 use Rattle.tall_cut.specs.Cuts.{cutter_left}
 use Rattle.tall_session.specs.Blocks.{place_at}
 use Rattle.tall_session.proofs.Blocks.{Follows}

@@ -1,4 +1,4 @@
-use Rattle.std.proofs.Common.{rules, ◌≡◌, Some, sym}
+use Rattle.std.proofs.Common.{rules, ◌≡◌, Some}
 use Rattle.tall_store.specs.Choices.{place_of}
 use Rattle.tall_store.specs.Stores.{selected_names}
 use Rattle.tall_session.specs.FirstScript.{variable_name}
