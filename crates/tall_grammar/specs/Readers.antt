@@ -1,5 +1,5 @@
 -- Reading from left to right, as definitions: a reader takes tokens from the front of what is left, or is stopped before
--- the first token that it can't take. It looks at one token alone before it takes it.
+-- the first token that it can't take. It looks at one token before it takes it, and where a statement begins at four.
 use Rattle.std.specs.Prelude.{ℕ, suc, zero, ◌||◌, Bool, true, false, if◌then◌else◌, List, [], ◌∷◌, ◌++◌, length, Option, Some, None, Result, Ok, Err, codes}
 use Rattle.tall_lex.specs.declared.tokens.TokenKind.{TokenKind}
 use Rattle.tall_lex.specs.declared.tokens.TokenKind.TheVariants.{Name, Number, Text, Word, Sign, LineEnd}

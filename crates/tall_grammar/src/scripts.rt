@@ -65,7 +65,7 @@ pub enum ParseFault {
     BadToken { line: u32, place: u32 },
     /// Brackets and blocks open, or the height of an expression, above 64.
     TooDeep { line: u32 },
-    /// The line of the first token with which no script goes on.
+    /// The line of the first token with which no script goes on, or the last line, where the text ends too early.
     Syntax { line: u32 },
     /// Want of memory.
     Memory,

@@ -10,6 +10,10 @@ mod statements;
 mod step_nodes;
 
 pub use parser::parse;
+pub use tall_grammar::{
+    Arg, Arm, Expr, Form, Function, FunctionStep, Infix, Node, ParseFault, Prefix, Script,
+    Statement,
+};
 
 #[cfg(test)]
 mod tests;

@@ -55,7 +55,7 @@ pub enum Fault {
     TooDeep {
         line: u32,
     },
-    /// No script goes on with the token on this line.
+    /// No script goes on with a token on this line, or the text ends too early on it.
     Syntax {
         line: u32,
     },
