@@ -13,7 +13,7 @@ use Rattle.tall_grammar.specs.declared.faults.Fault.TheVariants.{Stop, Memory}
 use Rattle.tall_grammar.specs.Lexemes.{Lexeme, lexeme_of, lexemes_of}
 use Rattle.tall_grammar.specs.Refusals.{Answer, Parses, bad_token, has_bad_token, has_tokens, is_too_long, last_line, limit, longest, too_deep, too_deep_at, too_long}
 use Rattle.tall_grammar.specs.Kept.{Flagged}
-use Rattle.tall_grammar.specs.Trees.{Program}
+use Rattle.tall_grammar.specs.Trees.{SeenScript}
 use Rattle.tall_grammar.specs.Readers.{Outcome, input}
 use Rattle.tall_grammar.specs.ScriptReader.{program}
 use Rattle.tall_grammar.specs.Verdicts.{lexemes_said, of_flag, said, syntax_from, tokens_said, verdict}
@@ -40,7 +40,7 @@ few_tokens bytes tokens h = few_of [] false bytes tokens (bytes_are bytes tokens
 
 pub tokens_answered : (k d last : ℕ) (ts : List Lexeme) → too_deep ts ≡ None → length ts < k → limit < d → (answer : Answer) × (said last ts (program k d (input ts 1)) ≡ Some answer)
 tokens_answered k d last ts flat less deep = by (program k d (input ts 1)) ((lasts_program k d deep 0).leaves (input ts 1) (record { fewer = less; low = omega arith; flat = flat })) where
-  by : (o : Outcome (Flagged Program)) → Leaves k 0 o → (answer : Answer) × (said last ts o ≡ Some answer)
+  by : (o : Outcome (Flagged SeenScript)) → Leaves k 0 o → (answer : Answer) × (said last ts o ≡ Some answer)
   by (Ok p) h = (of_flag p.0, refl)
   by (Err (Stop n)) h = (syntax_from last ts n, refl)
   by (Err Memory) h = absurd h

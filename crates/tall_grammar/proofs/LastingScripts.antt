@@ -2,7 +2,7 @@
 use Rattle.std.proofs.Common.{◌≡◌, ℕ, suc, zero, ◌+◌, ◌<◌, ◌≤◌, Bool, true, false, List, [], ◌∷◌, refl, arith}
 use Rattle.std.specs.Prelude.{Ok, if◌then◌else◌, codes}
 use Rattle.tall_grammar.specs.Lexemes.{Lexeme, sign, word, is_the_sign, is_the_word, is_separator, is_text}
-use Rattle.tall_grammar.specs.Trees.{Tree, Step, Steps, Entry, Routine}
+use Rattle.tall_grammar.specs.Trees.{Tree, Step, Steps, SeenStatement, SeenFunction}
 use Rattle.tall_grammar.specs.Refusals.{limit, open_behind}
 use Rattle.tall_grammar.specs.Kept.{Flagged, with_it, with_both, and_last}
 use Rattle.tall_grammar.specs.Readers.{input, Reader, ◌>>=◌, pure, given_if, take_as, take_text, expect, expect_sign, expect_word, is_name, skip_separators, without_separators}
@@ -106,7 +106,7 @@ module _ (k d : ℕ) (deep : limit < d) where
   lasts_statement : (o l b : ℕ) → b < k → Lasts (suc b) o b o (statement k d l)
   lasts_statement o l b less = lasts_bind (body k d l) _ (lasts_body o l b less) (λ x. lasts_bind ended _ (lasts_ended o b) (λ shown. lasts_pure _))
 
-  lasts_statements : (o n b : ℕ) → b ≤ n → b ≤ k → (found : Flagged (List Entry)) → Lasts b o b o (statements_from k d n found)
+  lasts_statements : (o n b : ℕ) → b ≤ n → b ≤ k → (found : Flagged (List SeenStatement)) → Lasts b o b o (statements_from k d n found)
   unfolding statements_from
   lasts_statements o zero b le small found = lasts_none (statements_from k d 0 found) le
   lasts_statements o (suc n) zero le small found = lasts_none (statements_from k d (suc n) found) (omega arith)
@@ -222,7 +222,7 @@ module _ (k d : ℕ) (deep : limit < d) where
   any_new_name : (o : ℕ) (before : List (List ℕ)) (b : ℕ) → Lasts b o b o (take_as (new_name before))
   any_new_name o before b = lasts_any {k = b} (take_as (new_name before)) (λ c less. lasts_take (new_name before) (new_name_stays o before)) b (omega arith)
 
-  lasts_functions : (o n b : ℕ) → b ≤ n → b ≤ k → (before : List (List ℕ)) (found : Flagged (List Routine)) → Lasts b o b o (functions_from k d n before found)
+  lasts_functions : (o n b : ℕ) → b ≤ n → b ≤ k → (before : List (List ℕ)) (found : Flagged (List SeenFunction)) → Lasts b o b o (functions_from k d n before found)
   unfolding functions_from
   lasts_functions o zero b le small before found = lasts_none (functions_from k d 0 before found) le
   lasts_functions o (suc n) zero le small before found = lasts_none (functions_from k d (suc n) before found) (omega arith)

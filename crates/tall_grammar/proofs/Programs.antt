@@ -4,7 +4,7 @@ use Rattle.std.proofs.lemmas.List.{append-nil}
 use Rattle.std.specs.Prelude.{codes, if◌then◌else◌, Ok, Err}
 use Rattle.tall_grammar.specs.declared.faults.Fault.TheVariants.{Memory}
 use Rattle.tall_grammar.specs.Lexemes.{Lexeme, sign, word, name_token, is_the_word, is_separator, shows}
-use Rattle.tall_grammar.specs.Trees.{Tree, Body, assigned, gathered, property, bare, Entry, Routine, Program}
+use Rattle.tall_grammar.specs.Trees.{Tree, Body, assigned, gathered, property, bare, SeenStatement, SeenFunction, SeenScript}
 use Rattle.tall_grammar.specs.Refusals.{body_trees}
 use Rattle.tall_grammar.specs.Grammar.{AreSeparators, first_line, IsBody, name_body, gather_body, property_body, bare_body, AreFunctions, no_functions, next_function}
 use Rattle.tall_grammar.specs.Kept.{Flagged, flagged, with_it, with_both, and_last}
@@ -78,45 +78,45 @@ no_separator_first = record {
 
 -- ---- from the statements that were found on
 
-abbrev pub entry_trees : Entry → List Tree
+abbrev pub entry_trees : SeenStatement → List Tree
 entry_trees e = body_trees e.form
 
-abbrev last_of : Flagged (List Entry) → ℕ → Body → Flagged Program
+abbrev last_of : Flagged (List SeenStatement) → ℕ → Body → Flagged SeenScript
 last_of found l b = with_both program_of_parts (and_last found (flagged (body_trees b) (entry_of l true b))) (Ok [])
 
-pub data ProgramFrom : Flagged (List Entry) → ℕ → List Lexeme → Flagged Program → ℕ → Type 0 where
-  p_functions : (found : Flagged (List Entry)) (m n : ℕ) (ts : List Lexeme) (fs : List Routine) (v : Flagged Program) → AreFunctions m ts fs n → all_new [] fs ≡ true
+pub data ProgramFrom : Flagged (List SeenStatement) → ℕ → List Lexeme → Flagged SeenScript → ℕ → Type 0 where
+  p_functions : (found : Flagged (List SeenStatement)) (m n : ℕ) (ts : List Lexeme) (fs : List SeenFunction) (v : Flagged SeenScript) → AreFunctions m ts fs n → all_new [] fs ≡ true
       → v ≡ with_both program_of_parts found (extended routine_trees (Ok []) fs) → ProgramFrom found m ts v n
-  p_last : (found : Flagged (List Entry)) (l m n : ℕ) (ts : List Lexeme) (b : Body) (v : Flagged Program) → IsBody l m ts b n
+  p_last : (found : Flagged (List SeenStatement)) (l m n : ℕ) (ts : List Lexeme) (b : Body) (v : Flagged SeenScript) → IsBody l m ts b n
       → v ≡ with_both program_of_parts (and_last found (flagged (body_trees b) (entry_of l true b))) (Ok []) → ProgramFrom found m ts v n
-  p_next : (found : Flagged (List Entry)) (l m k n : ℕ) (ts ps us : List Lexeme) (p : Lexeme) (b : Body) (v : Flagged Program) → IsBody l m ts b k → is_separator p ≡ true → AreSeparators ps
+  p_next : (found : Flagged (List SeenStatement)) (l m k n : ℕ) (ts ps us : List Lexeme) (p : Lexeme) (b : Body) (v : Flagged SeenScript) → IsBody l m ts b k → is_separator p ≡ true → AreSeparators ps
       → ProgramFrom (and_last found (flagged (body_trees b) (entry_of l (shows p) b))) k us v n → ProgramFrom found m (ts ++ p ∷ (ps ++ us)) v n
 
 module _ (k d : ℕ) where
-  abbrev rest_of : Flagged (List Entry) → Reader (Flagged Program)
+  abbrev rest_of : Flagged (List SeenStatement) → Reader (Flagged SeenScript)
   rest_of bs = functions_from k d k [] (Ok []) >>= (λ fs. pure (with_both program_of_parts bs fs))
 
-  abbrev whole_from : ℕ → Flagged (List Entry) → Reader (Flagged Program)
+  abbrev whole_from : ℕ → Flagged (List SeenStatement) → Reader (Flagged SeenScript)
   whole_from n found = statements_from k d n found >>= rest_of
 
-  abbrev RestRule : Flagged (List Entry) → Rule (Flagged Program)
+  abbrev RestRule : Flagged (List SeenStatement) → Rule (Flagged SeenScript)
   RestRule bs = Made (FunctionsRule [] (Ok [])) (λ fs. with_both program_of_parts bs fs)
 
-  end_rest : (bs : Flagged (List Entry)) → Ending (RestRule bs) (rest_of bs)
+  end_rest : (bs : Flagged (List SeenStatement)) → Ending (RestRule bs) (rest_of bs)
   end_rest bs = end_made (λ fs. with_both program_of_parts bs fs) (functions_from k d k [] (Ok [])) (exact_functions k d k [] (Ok []))
 
   -- behind a statement's form
 
-  abbrev next_of : ℕ → Flagged (List Entry) → ℕ → Flagged Body → Bool → Flagged (List Entry)
+  abbrev next_of : ℕ → Flagged (List SeenStatement) → ℕ → Flagged Body → Bool → Flagged (List SeenStatement)
   next_of n found l b shown = and_last found (with_it (entry_of l shown) b)
 
-  abbrev behind_body : ℕ → Flagged (List Entry) → ℕ → Flagged Body → Reader (Flagged Program)
+  abbrev behind_body : ℕ → Flagged (List SeenStatement) → ℕ → Flagged Body → Reader (Flagged SeenScript)
   behind_body n found l b = λ i. if at_end i.rest then whole_from n (next_of n found l b true) i else (separators >>= (λ shown. whole_from n (next_of n found l b shown))) i
 
-  abbrev one_statement : ℕ → Flagged (List Entry) → Reader (Flagged Program)
+  abbrev one_statement : ℕ → Flagged (List SeenStatement) → Reader (Flagged SeenScript)
   one_statement n found = on_line (λ l. body k d l >>= (λ b. behind_body n found l b))
 
-  unrolled : (n : ℕ) (found : Flagged (List Entry)) (ts : List Lexeme) (m : ℕ)
+  unrolled : (n : ℕ) (found : Flagged (List SeenStatement)) (ts : List Lexeme) (m : ℕ)
       → whole_from (suc n) found (input ts m) ≡ (if ends_statements ts then rest_of found (input ts m) else one_statement n found (input ts m))
   unfolding statements_from
   unrolled n found ts m = by (ends_statements ts) where
@@ -138,10 +138,10 @@ module _ (k d : ℕ) where
 
   -- the end of the text
 
-  abbrev IsNothing : Flagged (List Entry) → ℕ → Flagged Program → ℕ → Type 0
+  abbrev IsNothing : Flagged (List SeenStatement) → ℕ → Flagged SeenScript → ℕ → Type 0
   IsNothing found m v n = (v ≡ with_both program_of_parts found (Ok [])) × (m ≡ n)
 
-  at_nothing : (n : ℕ) (found : Flagged (List Entry)) (m : ℕ) → IsRead (whole_from n found (input [] m)) (with_both program_of_parts found (Ok [])) (input [] m)
+  at_nothing : (n : ℕ) (found : Flagged (List SeenStatement)) (m : ℕ) → IsRead (whole_from n found (input [] m)) (with_both program_of_parts found (Ok [])) (input [] m)
   unfolding statements_from functions_from
   at_nothing zero found m = tt
   at_nothing (suc n) found m = by k where
@@ -149,22 +149,22 @@ module _ (k d : ℕ) where
     by zero = tt
     by (suc i) = refl
 
-  nothing_ends : (n : ℕ) (found : Flagged (List Entry)) → AtEnd (IsNothing found) (whole_from n found)
+  nothing_ends : (n : ℕ) (found : Flagged (List SeenStatement)) → AtEnd (IsNothing found) (whole_from n found)
   nothing_ends n found = record {
     found = λ m a j h. let e = subst (λ (o : _). IsRead o (with_both program_of_parts found (Ok [])) (input [] m)) h (at_nothing n found m) in (ap (λ q. q.1.rest) e, (ap (λ q. q.0) e, ap (λ q. q.1.next) (sym e)));
     no_stop = λ m i h. subst (λ (o : _). IsRead o (with_both program_of_parts found (Ok [])) (input [] m)) h (at_nothing n found m);
-    only = λ m a i e. subst (λ (z : ℕ). IsRead (whole_from n found (input [] m)) a (input [] z)) e.1 (subst (λ (z : Flagged Program). IsRead (whole_from n found (input [] m)) z (input [] m)) (sym e.0) (at_nothing n found m));
+    only = λ m a i e. subst (λ (z : ℕ). IsRead (whole_from n found (input [] m)) a (input [] z)) e.1 (subst (λ (z : Flagged SeenScript). IsRead (whole_from n found (input [] m)) z (input [] m)) (sym e.0) (at_nothing n found m));
   }
 
   -- ---- one statement
 
-  abbrev SepRule : ℕ → Flagged (List Entry) → ℕ → Flagged Body → Rule (Flagged Program)
+  abbrev SepRule : ℕ → Flagged (List SeenStatement) → ℕ → Flagged Body → Rule (Flagged SeenScript)
   SepRule n found l b = Seq SeparatorsRule (λ shown. ProgramFrom (next_of n found l b shown))
 
-  abbrev BehindRule : ℕ → Flagged (List Entry) → ℕ → Flagged Body → Rule (Flagged Program)
+  abbrev BehindRule : ℕ → Flagged (List SeenStatement) → ℕ → Flagged Body → Rule (Flagged SeenScript)
   BehindRule n found l b = EndOr (IsNothing (next_of n found l b true)) (SepRule n found l b)
 
-  program_first : (test : Lexeme → Bool) → NoExpr test → ((p : ℕ) → test (word p (codes "function")) ≡ false) → (found : Flagged (List Entry)) (m : ℕ) (ts : List Lexeme) (v : Flagged Program) (n : ℕ) → ProgramFrom found m ts v n → front_is test ts ≡ false
+  program_first : (test : Lexeme → Bool) → NoExpr test → ((p : ℕ) → test (word p (codes "function")) ≡ false) → (found : Flagged (List SeenStatement)) (m : ℕ) (ts : List Lexeme) (v : Flagged SeenScript) (n : ℕ) → ProgramFrom found m ts v n → front_is test ts ≡ false
   program_first test free f found m ts v n (p_functions found1 m1 n1 ts1 fs v1 (no_functions m2) e q) = refl
   program_first test free f found m ts v n (p_functions found1 m1 n1 ts1 fs v1 (next_function l2 m2 k2 n2 p2 q2 r2 u2 v2 w2 s2 t1 t2 t3 sep a b c ps ts2 qs us bd gs x y z h sp dd sq g) e q) = f l2
   program_first test free f found m ts v n (p_last found1 l m1 n1 ts1 b v1 r q) =
@@ -172,25 +172,25 @@ module _ (k d : ℕ) where
   program_first test free f found m all v n (p_next found1 l m1 k1 n1 ts ps us p b v1 r h s q) =
       let u = raw_first test free l m1 ts (flagged (body_trees b) b) k1 (body_back l m1 ts _ k1 (told m1 k1 ts b _ r refl)) in ap (λ w. front_is test (w ++ p ∷ (ps ++ us))) u.text ∙ u.fails
 
-  sep_nonempty : (n : ℕ) (found : Flagged (List Entry)) (l : ℕ) (b : Flagged Body) (m : ℕ) (v : Flagged Program) (i : ℕ) → SepRule n found l b m [] v i → ⊥
+  sep_nonempty : (n : ℕ) (found : Flagged (List SeenStatement)) (l : ℕ) (b : Flagged Body) (m : ℕ) (v : Flagged SeenScript) (i : ℕ) → SepRule n found l b m [] v i → ⊥
   sep_nonempty n found l b m v i r = by [] r refl where
     by : (ts : List Lexeme) → SepRule n found l b m ts v i → ts ≡ [] → ⊥
     by all (seq m1 k1 n1 ts us c v1 (separators_rule m2 p ps h s) x) e = let g : p ∷ (ps ++ us) ≡ [] = e in absurd cc
 
-  body_follow : (n : ℕ) (found : Flagged (List Entry)) (l : ℕ) (b : Flagged Body) (j : ℕ) (us : List Lexeme) (v : Flagged Program) (i : ℕ) → BehindRule n found l b j us v i → front_is goes_body us ≡ false
+  body_follow : (n : ℕ) (found : Flagged (List SeenStatement)) (l : ℕ) (b : Flagged Body) (j : ℕ) (us : List Lexeme) (v : Flagged SeenScript) (i : ℕ) → BehindRule n found l b j us v i → front_is goes_body us ≡ false
   body_follow n found l b j us v i (at_the_end m1 n1 v1 e) = refl
   body_follow n found l b j us v i (before_it m1 n1 t ts1 v1 r) = by (t ∷ ts1) r where
     by : (ts : List Lexeme) → SepRule n found l b m1 ts v1 n1 → front_is goes_body ts ≡ false
     by all (seq m2 k2 n2 ts us2 c v2 (separators_rule m3 p ps h s) x) = no_separator goes_body (λ p. refl) (λ p. refl) (λ p s. refl) p h
 
-  abbrev LineRule : ℕ → Flagged (List Entry) → ℕ → Rule (Flagged Program)
+  abbrev LineRule : ℕ → Flagged (List SeenStatement) → ℕ → Rule (Flagged SeenScript)
   LineRule n found l = Seq (RawBody l) (λ b. BehindRule n found l b)
 
-  line_tokens : (n : ℕ) (found : Flagged (List Entry)) (l m : ℕ) (ts : List Lexeme) (v : Flagged Program) (i : ℕ) → LineRule n found l m ts v i → Some_tokens ts
+  line_tokens : (n : ℕ) (found : Flagged (List SeenStatement)) (l m : ℕ) (ts : List Lexeme) (v : Flagged SeenScript) (i : ℕ) → LineRule n found l m ts v i → Some_tokens ts
   line_tokens n found l m all v i (seq m1 k1 n1 ts us b v1 r x) =
       let u = raw_first is_separator no_separator_first l m1 ts b k1 r in record { token = u.token; others = u.others ++ us; text = ap (λ w. w ++ us) u.text }
 
-  live_line : (n : ℕ) (found : Flagged (List Entry)) (m : ℕ) → Live (OnLine (LineRule n found)) m
+  live_line : (n : ℕ) (found : Flagged (List SeenStatement)) (m : ℕ) → Live (OnLine (LineRule n found)) m
   live_line n found m = record {
     tokens = name_token 1 [] ∷ [];
     value = _;
@@ -198,45 +198,45 @@ module _ (k d : ℕ) where
     holds = on_line_is 1 m (suc m) (name_token 1 [] ∷ []) _ (seq m (suc m) (suc m) (name_token 1 [] ∷ []) [] _ _ (raw_bare m (suc m) _ _ (told m (suc m) _ _ _ (a_name_alone 1 m 1 []) refl)) (at_the_end (suc m) (suc m) _ (refl, refl))) refl;
   }
 
-  abbrev AnyRule : ℕ → Flagged (List Entry) → Rule (Flagged Program)
+  abbrev AnyRule : ℕ → Flagged (List SeenStatement) → Rule (Flagged SeenScript)
   AnyRule n found = Either (RestRule found) (OnLine (LineRule n found))
 
   -- as the grammar has it
 
-  next_value : (found : Flagged (List Entry)) (l : ℕ) (shown : Bool) (b : Body) → and_last found (with_it (entry_of l shown) (flagged (body_trees b) b)) ≡ and_last found (flagged (body_trees b) (entry_of l shown b))
+  next_value : (found : Flagged (List SeenStatement)) (l : ℕ) (shown : Bool) (b : Body) → and_last found (with_it (entry_of l shown) (flagged (body_trees b) b)) ≡ and_last found (flagged (body_trees b) (entry_of l shown b))
   next_value found l shown b = ap (and_last found) (flagged_it (entry_of l shown) (body_trees b) b)
 
   first_of_front : (ts us : List Lexeme) (l : ℕ) (t : Lexeme) (rest : List Lexeme) → ts ≡ t ∷ rest → first_line (ts ++ us) ≡ Some l → first_line ts ≡ Some l
   first_of_front ts us l t rest e h = ap first_line e ∙ (ap (λ w. first_line (w ++ us)) (sym e) ∙ h)
 
-  any_there : (n : ℕ) (found : Flagged (List Entry)) (m : ℕ) (ts : List Lexeme) (v : Flagged Program) (i : ℕ) → AnyRule n found m ts v i → ProgramFrom found m ts v i
+  any_there : (n : ℕ) (found : Flagged (List SeenStatement)) (m : ℕ) (ts : List Lexeme) (v : Flagged SeenScript) (i : ℕ) → AnyRule n found m ts v i → ProgramFrom found m ts v i
   any_there n found m ts v i (one m1 n1 ts1 v1 (made m2 n2 ts2 fs v2 (functions_rule m3 n3 ts3 gs v3 r e q) w)) =
       p_functions found m3 n3 ts3 gs v2 r e (w ∙ ap (λ z. with_both program_of_parts found z) q)
   any_there n found m ts v i (other m1 n1 ts1 v1 (on_line_is l m2 n2 ts2 v2 r h)) = at_line l m2 ts2 v2 n2 r h where
-    behind : (l m : ℕ) (ts : List Lexeme) (b : Body) (j : ℕ) (us : List Lexeme) (c : Flagged Body) (v : Flagged Program) (i : ℕ) → IsBody l m ts b j → c ≡ flagged (body_trees b) b → BehindRule n found l c j us v i → ProgramFrom found m (ts ++ us) v i
+    behind : (l m : ℕ) (ts : List Lexeme) (b : Body) (j : ℕ) (us : List Lexeme) (c : Flagged Body) (v : Flagged SeenScript) (i : ℕ) → IsBody l m ts b j → c ≡ flagged (body_trees b) b → BehindRule n found l c j us v i → ProgramFrom found m (ts ++ us) v i
     behind l m ts b j us c v i r q (at_the_end m4 n4 v4 e) =
         subst (λ (w : List Lexeme). ProgramFrom found m w v4 n4) (sym (append-nil ts))
         (p_last found l m n4 ts b v4 (subst (λ (z : ℕ). IsBody l m ts b z) e.1 r) (e.0 ∙ ap (λ z. with_both program_of_parts z (Ok [])) (ap (λ z. and_last found (with_it (entry_of l true) z)) q ∙ next_value found l true b)))
     behind l m ts b j us c v i r q (before_it m4 n4 t ts4 v4 x) = by (t ∷ ts4) x where
       by : (us : List Lexeme) → SepRule n found l c m4 us v4 n4 → ProgramFrom found m (ts ++ us) v4 n4
       by all (seq m5 k5 n5 ts5 us5 shown v5 (separators_rule m6 p ps h s) y) =
-          p_next found l m m6 n5 ts ps us5 p b v5 r h s (subst (λ (z : Flagged (List Entry)). ProgramFrom z m6 us5 v5 n5) (ap (λ z. and_last found (with_it (entry_of l (shows p)) z)) q ∙ next_value found l (shows p) b) y)
+          p_next found l m m6 n5 ts ps us5 p b v5 r h s (subst (λ (z : Flagged (List SeenStatement)). ProgramFrom z m6 us5 v5 n5) (ap (λ z. and_last found (with_it (entry_of l (shows p)) z)) q ∙ next_value found l (shows p) b) y)
 
-    at_line : (l m : ℕ) (ts : List Lexeme) (v : Flagged Program) (i : ℕ) → LineRule n found l m ts v i → first_line ts ≡ Some l → ProgramFrom found m ts v i
+    at_line : (l m : ℕ) (ts : List Lexeme) (v : Flagged SeenScript) (i : ℕ) → LineRule n found l m ts v i → first_line ts ≡ Some l → ProgramFrom found m ts v i
     at_line l m all v i (seq m3 k3 n3 ts us c v3 r x) h =
         let u = raw_first is_separator no_separator_first l m3 ts c k3 r in
         of_told m3 ts c k3 (body_there l m3 ts c k3 r (first_of_front ts us l u.token u.others u.text h)) us v3 n3 x where
-          of_told : (m : ℕ) (ts : List Lexeme) (c : Flagged Body) (j : ℕ) → BodyRule l m ts c j → (us : List Lexeme) (v : Flagged Program) (i : ℕ) → BehindRule n found l c j us v i → ProgramFrom found m (ts ++ us) v i
+          of_told : (m : ℕ) (ts : List Lexeme) (c : Flagged Body) (j : ℕ) → BodyRule l m ts c j → (us : List Lexeme) (v : Flagged SeenScript) (i : ℕ) → BehindRule n found l c j us v i → ProgramFrom found m (ts ++ us) v i
           of_told m ts c j (told m4 n4 ts4 b c4 r q) us v i x = behind l m4 ts4 b n4 us c4 v i r q x
 
-  any_back : (n : ℕ) (found : Flagged (List Entry)) (m : ℕ) (ts : List Lexeme) (v : Flagged Program) (i : ℕ) → ProgramFrom found m ts v i → AnyRule n found m ts v i
+  any_back : (n : ℕ) (found : Flagged (List SeenStatement)) (m : ℕ) (ts : List Lexeme) (v : Flagged SeenScript) (i : ℕ) → ProgramFrom found m ts v i → AnyRule n found m ts v i
   any_back n found m ts v i (p_functions found1 m1 n1 ts1 fs v1 r e q) = one m1 n1 ts1 v1 (made m1 n1 ts1 (extended routine_trees (Ok []) fs) v1 (functions_rule m1 n1 ts1 fs _ r e refl) q)
   any_back n found m ts v i (p_last found1 l m1 n1 ts1 b v1 r q) =
       other m1 n1 ts1 v1 (on_line_is l m1 n1 ts1 v1 (subst (λ (w : List Lexeme). LineRule n found1 l m1 w v1 n1) (append-nil ts1) (seq m1 n1 n1 ts1 [] (flagged (body_trees b) b) v1 (body_back l m1 ts1 _ n1 (told m1 n1 ts1 b _ r refl))
       (at_the_end n1 n1 v1 (q ∙ ap (λ z. with_both program_of_parts z (Ok [])) (sym (next_value found1 l true b)), refl)))) (body_line l m1 ts1 b n1 r))
   any_back n found m all v i (p_next found1 l m1 k1 n1 ts ps us p b v1 r h s x) =
       other m1 n1 _ v1 (on_line_is l m1 n1 _ v1 (seq m1 k1 n1 ts (p ∷ (ps ++ us)) (flagged (body_trees b) b) v1 (body_back l m1 ts _ k1 (told m1 k1 ts b _ r refl))
-      (before_it k1 n1 p (ps ++ us) v1 (seq k1 k1 n1 (p ∷ ps) us (shows p) v1 (separators_rule k1 p ps h s) (subst (λ (z : Flagged (List Entry)). ProgramFrom z k1 us v1 n1) (sym (next_value found1 l (shows p) b)) x))))
+      (before_it k1 n1 p (ps ++ us) v1 (seq k1 k1 n1 (p ∷ ps) us (shows p) v1 (separators_rule k1 p ps h s) (subst (λ (z : Flagged (List SeenStatement)). ProgramFrom z k1 us v1 n1) (sym (next_value found1 l (shows p) b)) x))))
       (line_front ts (p ∷ (ps ++ us)) l (body_line l m1 ts b k1 r))) where
         line_front : (ts us : List Lexeme) (l : ℕ) → first_line ts ≡ Some l → first_line (ts ++ us) ≡ Some l
         line_front [] us l h = absurd cc
@@ -248,23 +248,23 @@ module _ (k d : ℕ) where
   front_stays [] x r s = refl
   front_stays (t ∷ ts) x r s = refl
 
-  rest_ends : (found : Flagged (List Entry)) (m : ℕ) (ts : List Lexeme) (v : Flagged Program) (n : ℕ) → RestRule found m ts v n → ends_statements ts ≡ true
+  rest_ends : (found : Flagged (List SeenStatement)) (m : ℕ) (ts : List Lexeme) (v : Flagged SeenScript) (n : ℕ) → RestRule found m ts v n → ends_statements ts ≡ true
   rest_ends found m ts v n (made m1 n1 ts1 fs v1 (functions_rule m2 n2 ts2 gs v2 (no_functions m3) e q) w) = refl
   rest_ends found m ts v n (made m1 n1 ts1 fs v1 (functions_rule m2 n2 ts2 gs v2 (next_function l3 m3 k3 n3 p3 q3 r3 u3 v3 w3 s3 t1 t2 t3 sep a b c ps ts3 qs us bd hs x y z h sp dd sq g) e q) w) = refl
 
-  line_goes : (n : ℕ) (found : Flagged (List Entry)) (m : ℕ) (ts : List Lexeme) (v : Flagged Program) (i : ℕ) → OnLine (LineRule n found) m ts v i → ends_statements ts ≡ false
+  line_goes : (n : ℕ) (found : Flagged (List SeenStatement)) (m : ℕ) (ts : List Lexeme) (v : Flagged SeenScript) (i : ℕ) → OnLine (LineRule n found) m ts v i → ends_statements ts ≡ false
   line_goes n found m ts v i (on_line_is l m1 n1 ts1 v1 r h) = by l m1 ts1 v1 n1 r where
-    by : (l m : ℕ) (ts : List Lexeme) (v : Flagged Program) (i : ℕ) → LineRule n found l m ts v i → ends_statements ts ≡ false
+    by : (l m : ℕ) (ts : List Lexeme) (v : Flagged SeenScript) (i : ℕ) → LineRule n found l m ts v i → ends_statements ts ≡ false
     by l m all v i (seq m2 k2 n2 ts us b v2 r x) = let u = raw_first (is_the_word (codes "function")) no_function_word l m2 ts b k2 r in ap (λ w. ends_statements (w ++ us)) u.text ∙ u.fails
 
-  live_from : (found : Flagged (List Entry)) (m : ℕ) → Live (ProgramFrom found) m
+  live_from : (found : Flagged (List SeenStatement)) (m : ℕ) → Live (ProgramFrom found) m
   live_from found m = record { tokens = []; value = _; next = m; holds = p_functions found m m [] [] _ (no_functions m) refl refl }
 
-  tired_from : (found : Flagged (List Entry)) (i : Input) → whole_from zero found i ≡ Err Memory
+  tired_from : (found : Flagged (List SeenStatement)) (i : Input) → whole_from zero found i ≡ Err Memory
   unfolding statements_from
   tired_from found i = refl
 
-  exact_from : (n : ℕ) (found : Flagged (List Entry)) → Ending (ProgramFrom found) (whole_from n found)
+  exact_from : (n : ℕ) (found : Flagged (List SeenStatement)) → Ending (ProgramFrom found) (whole_from n found)
   exact_from zero found = end_tired (ProgramFrom found) (live_from found) (whole_from zero found) (tired_from found)
   exact_from (suc n) found =
       end_as (AnyRule n found) (ProgramFrom found)
@@ -283,7 +283,7 @@ module _ (k d : ℕ) where
       (rest_ends found) (line_goes n found)))
       (any_there n found) (any_back n found)
 
-  abbrev ScriptRule : Rule (Flagged Program)
+  abbrev ScriptRule : Rule (Flagged SeenScript)
   ScriptRule = Seq SkipRule (λ _. ProgramFrom (Ok []))
 
   pub exact_program : Ending (Seq SkipRule (λ _. ProgramFrom (Ok []))) (program k d)

@@ -6,7 +6,7 @@ use Rattle.std.specs.Prelude.{codes, nat_eq, if◌then◌else◌, Result, Ok}
 use Rattle.std.specs.List.{flat_map, list_any, list_all}
 use Rattle.std.specs.Cmp.Lexicographic.{pointwise}
 use Rattle.tall_grammar.specs.Lexemes.{Lexeme, sign, word, name_token, is_the_sign, is_the_word, is_separator, is_text}
-use Rattle.tall_grammar.specs.Trees.{Tree, Step, Steps, no_steps, Routine}
+use Rattle.tall_grammar.specs.Trees.{Tree, Step, Steps, no_steps, SeenFunction}
 use Rattle.tall_grammar.specs.Views.{steps_of}
 use Rattle.tall_grammar.specs.Refusals.{step_trees, steps_trees}
 use Rattle.tall_grammar.specs.Grammar.{AreSeparators, first_line, AreSteps, without_steps, IsParameter, named, passed_over, AreFunctions, no_functions, next_function, are_distinct, function_name}
@@ -79,16 +79,16 @@ exact_params =
 
 -- ---- a function behind its name
 
-pub data FunctionRule (l : ℕ) (s : List ℕ) : ℕ → List Lexeme → Flagged Routine → ℕ → Type 0 where
-  function_rule : (m n q r u v w : ℕ) (t1 t2 t3 sep : Lexeme) (a b c : Option (List ℕ)) (ps ts qs : List Lexeme) (body : Steps) (f : Flagged Routine)
+pub data FunctionRule (l : ℕ) (s : List ℕ) : ℕ → List Lexeme → Flagged SeenFunction → ℕ → Type 0 where
+  function_rule : (m n q r u v w : ℕ) (t1 t2 t3 sep : Lexeme) (a b c : Option (List ℕ)) (ps ts qs : List Lexeme) (body : Steps) (f : Flagged SeenFunction)
       → IsParameter t1 a → IsParameter t2 b → IsParameter t3 c → is_separator sep ≡ true → AreSeparators ps → AreSteps m ts body n → AreSeparators qs
       → f ≡ flagged (steps_trees body) (record { name = s; line = l; params = a ∷ b ∷ c ∷ []; body = body })
       → FunctionRule l s m (sign q (codes "(") ∷ t1 ∷ sign r (codes ",") ∷ t2 ∷ sign u (codes ",") ∷ t3 ∷ sign v (codes ")") ∷ sep ∷ (ps ++ (ts ++ word w (codes "end") ∷ qs))) f n
 
-abbrev made_routine : (l : ℕ) (s : List ℕ) → List (Option (List ℕ)) → Flagged (List Step) → Flagged Routine
+abbrev made_routine : (l : ℕ) (s : List ℕ) → List (Option (List ℕ)) → Flagged (List Step) → Flagged SeenFunction
 made_routine l s params body = with_it (routine l s params) body
 
-abbrev FunctionSeq : (l : ℕ) (s : List ℕ) → Rule (Flagged Routine)
+abbrev FunctionSeq : (l : ℕ) (s : List ℕ) → Rule (Flagged SeenFunction)
 FunctionSeq l s = Seq ParamsRule (λ params. Seq SeparatorsRule (λ _. Seq StepsRule (λ body. After (a_word (codes "end")) (Seq SkipRule (λ _. IsSame (made_routine l s params body))))))
 
 routine_value : (l : ℕ) (s : List ℕ) (params : List (Option (List ℕ))) (bs : List Step)
@@ -97,13 +97,13 @@ routine_value l s params bs =
     flagged_it (routine l s params) (flat_map step_trees bs) bs
     ∙ ap (λ z. flagged z (routine l s params bs)) (sym (trees_of_steps bs))
 
-function_there : (l : ℕ) (s : List ℕ) (m : ℕ) (ts : List Lexeme) (f : Flagged Routine) (n : ℕ) → FunctionSeq l s m ts f n → FunctionRule l s m ts f n
+function_there : (l : ℕ) (s : List ℕ) (m : ℕ) (ts : List Lexeme) (f : Flagged SeenFunction) (n : ℕ) → FunctionSeq l s m ts f n → FunctionRule l s m ts f n
 function_there l s m all f n (seq m1 k1 n1 ts1 us1 params f1 (params_rule m2 q r u v t1 t2 t3 a b c ps2 x y z e) (seq m3 k3 n3 ts3 us3 shown f3 (separators_rule m4 sep ps h sp) (seq m5 k5 n5 ts5 us5 body f5 (told m6 n6 ts6 bs b6 d dq) (after m7 n7 w ts7 f7 (seq m8 k8 n8 ts8 us8 c8 f8 (skip_rule m9 qs sq) (is_same m10 f10 g)))))) =
     subst (λ (i : List Lexeme). FunctionRule l s m4 (sign q (codes "(") ∷ t1 ∷ sign r (codes ",") ∷ t2 ∷ sign u (codes ",") ∷ t3 ∷ sign v (codes ")") ∷ sep ∷ (ps ++ (ts6 ++ word w (codes "end") ∷ i))) f10 m10) (sym (append-nil qs))
     (function_rule m4 m10 q r u v w t1 t2 t3 sep a b c ps ts6 qs (steps_of bs) f10 x y z h sp (many_there m4 ts6 bs m10 d) sq
     (g ∙ (ap (λ i. made_routine l s i body) e ∙ (ap (made_routine l s (a ∷ b ∷ c ∷ [])) dq ∙ routine_value l s (a ∷ b ∷ c ∷ []) bs))))
 
-function_back : (l : ℕ) (s : List ℕ) (m : ℕ) (ts : List Lexeme) (f : Flagged Routine) (n : ℕ) → FunctionRule l s m ts f n → FunctionSeq l s m ts f n
+function_back : (l : ℕ) (s : List ℕ) (m : ℕ) (ts : List Lexeme) (f : Flagged SeenFunction) (n : ℕ) → FunctionRule l s m ts f n → FunctionSeq l s m ts f n
 function_back l s m ts f n (function_rule m1 n1 q r u v w t1 t2 t3 sep a b c ps ts1 qs body f1 x y z h sp d sq g) =
     let k = many_back m1 ts1 body n1 d in
     subst (λ (i : List Lexeme). FunctionSeq l s m1 (sign q (codes "(") ∷ t1 ∷ sign r (codes ",") ∷ t2 ∷ sign u (codes ",") ∷ t3 ∷ sign v (codes ")") ∷ sep ∷ (ps ++ (ts1 ++ word w (codes "end") ∷ i))) f1 n1) (append-nil qs)
@@ -118,7 +118,7 @@ end_follow test f P j us b n rest (after m1 n1 p ts1 b1 r) = f p
 not_separator : (bs : (p : ℕ) → goes_steps (word p (codes "end")) ≡ false) (p : ℕ) → is_separator (word p (codes "end")) ≡ false
 not_separator bs p = refl
 
-steps_follow : (l : ℕ) (s : List ℕ) (params : List (Option (List ℕ))) (j : ℕ) (us : List Lexeme) (b : Flagged Routine) (n : ℕ) (rest : List Lexeme)
+steps_follow : (l : ℕ) (s : List ℕ) (params : List (Option (List ℕ))) (j : ℕ) (us : List Lexeme) (b : Flagged SeenFunction) (n : ℕ) (rest : List Lexeme)
     → Seq StepsRule (λ body. After (a_word (codes "end")) (Seq SkipRule (λ _. IsSame (made_routine l s params body)))) j us b n → front_is is_separator (us ++ rest) ≡ false
 steps_follow l s params j all b n rest (seq m1 k1 n1 ts us body b1 r y) =
     ap (front_is is_separator) (append_assoc ts us rest) ∙ steps_front m1 ts body k1 (us ++ rest) r (end_follow goes_steps (λ p. refl) _ k1 us b1 n1 rest y)
@@ -193,33 +193,33 @@ new_back before p s h = ap (λ x. if x then Some s else None) h
 
 -- ---- { function }
 
-abbrev pub routine_trees : Routine → List Tree
+abbrev pub routine_trees : SeenFunction → List Tree
 routine_trees f = steps_trees f.body
 
 -- the names are new, one after the other
-abbrev pub all_new : List (List ℕ) → List Routine → Bool
+abbrev pub all_new : List (List ℕ) → List SeenFunction → Bool
 all_new before [] = true
 all_new before (f ∷ fs) = is_new before f.name && all_new (f.name ∷ before) fs
 
-pub data FunctionsRule (before : List (List ℕ)) (found : Flagged (List Routine)) : ℕ → List Lexeme → Flagged (List Routine) → ℕ → Type 0 where
-  functions_rule : (m n : ℕ) (ts : List Lexeme) (fs : List Routine) (v : Flagged (List Routine)) → AreFunctions m ts fs n → all_new before fs ≡ true → v ≡ extended routine_trees found fs
+pub data FunctionsRule (before : List (List ℕ)) (found : Flagged (List SeenFunction)) : ℕ → List Lexeme → Flagged (List SeenFunction) → ℕ → Type 0 where
+  functions_rule : (m n : ℕ) (ts : List Lexeme) (fs : List SeenFunction) (v : Flagged (List SeenFunction)) → AreFunctions m ts fs n → all_new before fs ≡ true → v ≡ extended routine_trees found fs
       → FunctionsRule before found m ts v n
 
-abbrev OneMore : (before : List (List ℕ)) (found : Flagged (List Routine)) → ℕ → Rule (Flagged (List Routine))
+abbrev OneMore : (before : List (List ℕ)) (found : Flagged (List SeenFunction)) → ℕ → Rule (Flagged (List SeenFunction))
 OneMore before found l = Seq (Passes (is_the_word (codes "function"))) (λ _. Seq (IsTaken (new_name before)) (λ s. Seq (FunctionRule l s) (λ f. FunctionsRule (s ∷ before) (and_last found f))))
 
-abbrev NoMore : (found : Flagged (List Routine)) → ℕ → Flagged (List Routine) → ℕ → Type 0
+abbrev NoMore : (found : Flagged (List SeenFunction)) → ℕ → Flagged (List SeenFunction) → ℕ → Type 0
 NoMore found m v n = (v ≡ found) × (m ≡ n)
 
-functions_first : (before : List (List ℕ)) (found : Flagged (List Routine)) (test : Lexeme → Bool) → ((p : ℕ) → test (word p (codes "function")) ≡ false) → (m : ℕ) (ts : List Lexeme) (v : Flagged (List Routine)) (n : ℕ)
+functions_first : (before : List (List ℕ)) (found : Flagged (List SeenFunction)) (test : Lexeme → Bool) → ((p : ℕ) → test (word p (codes "function")) ≡ false) → (m : ℕ) (ts : List Lexeme) (v : Flagged (List SeenFunction)) (n : ℕ)
     → FunctionsRule before found m ts v n → front_is test ts ≡ false
 functions_first before found test f m ts v n (functions_rule m1 n1 ts1 fs v1 (no_functions m2) e q) = refl
 functions_first before found test f m ts v n (functions_rule m1 n1 ts1 fs v1 (next_function l2 m2 k2 n2 p2 q2 r2 u2 v2 w2 s2 t1 t2 t3 sep a b c ps ts2 qs us body gs x y z h sp d sq g) e q) = f l2
 
-more_there : (before : List (List ℕ)) (found : Flagged (List Routine)) (m : ℕ) (ts : List Lexeme) (v : Flagged (List Routine)) (n : ℕ) → EndOr (NoMore found) (OnLine (OneMore before found)) m ts v n → FunctionsRule before found m ts v n
+more_there : (before : List (List ℕ)) (found : Flagged (List SeenFunction)) (m : ℕ) (ts : List Lexeme) (v : Flagged (List SeenFunction)) (n : ℕ) → EndOr (NoMore found) (OnLine (OneMore before found)) m ts v n → FunctionsRule before found m ts v n
 more_there before found m ts v n (at_the_end m1 n1 v1 e) = subst (λ (z : ℕ). FunctionsRule before found m1 [] v1 z) e.1 (functions_rule m1 m1 [] [] v1 (no_functions m1) refl (e.0 ∙ sym (extended_none routine_trees found)))
 more_there before found m ts v n (before_it m1 n1 t ts1 v1 r) = on_a_line m1 (t ∷ ts1) v1 n1 r where
-  at_line : (l m : ℕ) (ts : List Lexeme) (v : Flagged (List Routine)) (n : ℕ) → OneMore before found l m ts v n → first_line ts ≡ Some l → FunctionsRule before found m ts v n
+  at_line : (l m : ℕ) (ts : List Lexeme) (v : Flagged (List SeenFunction)) (n : ℕ) → OneMore before found l m ts v n → first_line ts ≡ Some l → FunctionsRule before found m ts v n
   at_line l m all v n (seq m1 k1 n1 ts1 us1 c1 v1 (passes m2 t h) (seq m3 k3 n3 ts3 us3 s v3 (is_taken m4 t4 s4 g) (seq m5 k5 n5 ts5 us5 f v5 (function_rule m6 n6 q r u v6 w t1 t2 t3 sep a b c ps ts6 qs body f6 x y z hs sp d sq fq) (functions_rule m7 n7 ts7 fs v7 fr en vq)))) e =
       let p = new_there before t4 s4 g in
       let le : t.line ≡ l = cc in
@@ -233,10 +233,10 @@ more_there before found m ts v n (before_it m1 n1 t ts1 v1 r) = on_a_line m1 (t 
       (and_from (is_new before s4) _ p.1 en)
       (vq ∙ (ap (λ i. extended routine_trees (and_last found i) fs) fq ∙ extended_more routine_trees found (record { name = s4; line = l; params = a ∷ b ∷ c ∷ []; body = body }) fs)))))
 
-  on_a_line : (m : ℕ) (ts : List Lexeme) (v : Flagged (List Routine)) (n : ℕ) → OnLine (OneMore before found) m ts v n → FunctionsRule before found m ts v n
+  on_a_line : (m : ℕ) (ts : List Lexeme) (v : Flagged (List SeenFunction)) (n : ℕ) → OnLine (OneMore before found) m ts v n → FunctionsRule before found m ts v n
   on_a_line m ts v n (on_line_is l m1 n1 ts1 v1 r e) = at_line l m1 ts1 v1 n1 r e
 
-more_back : (before : List (List ℕ)) (found : Flagged (List Routine)) (m : ℕ) (ts : List Lexeme) (v : Flagged (List Routine)) (n : ℕ) → FunctionsRule before found m ts v n → EndOr (NoMore found) (OnLine (OneMore before found)) m ts v n
+more_back : (before : List (List ℕ)) (found : Flagged (List SeenFunction)) (m : ℕ) (ts : List Lexeme) (v : Flagged (List SeenFunction)) (n : ℕ) → FunctionsRule before found m ts v n → EndOr (NoMore found) (OnLine (OneMore before found)) m ts v n
 more_back before found m ts v n (functions_rule m1 n1 ts1 fs v1 (no_functions m2) e q) = at_the_end m2 m2 v1 (q ∙ extended_none routine_trees found, refl)
 more_back before found m ts v n (functions_rule m1 n1 ts1 fs v1 (next_function l m2 k2 n2 p q r u w6 w s t1 t2 t3 sep a b c ps ts2 qs us body gs x y z h sp d sq fr) e vq) =
     let en = and_parts (is_new before s) (all_new (s ∷ before) gs) e in
@@ -250,7 +250,7 @@ more_back before found m ts v n (functions_rule m1 n1 ts1 fs v1 (next_function l
     (functions_rule k2 n2 us gs v1 fr en.1 (vq ∙ sym (extended_more routine_trees found (record { name = s; line = l; params = a ∷ b ∷ c ∷ []; body = body }) gs)))))))
     refl)
 
-found_at_end : (found : Flagged (List Routine)) → AtEnd (NoMore found) (pure found)
+found_at_end : (found : Flagged (List SeenFunction)) → AtEnd (NoMore found) (pure found)
 found_at_end found = record {
   found = λ m a j h. let e = ok_value (found, input [] m) (a, j) h in (ap (λ q. q.1.rest) (sym e), (ap (λ q. q.0) (sym e), ap (λ q. q.1.next) e));
   no_stop = λ m k h. absurd cc;
@@ -259,15 +259,15 @@ found_at_end found = record {
   ok_value : {X E : Type 0} (x y : X) → ◌≡◌ {A = Result X E} (Ok x) (Ok y) → x ≡ y
   ok_value x y h = cc
 
-one_more_tokens : (before : List (List ℕ)) (found : Flagged (List Routine)) (l m : ℕ) (ts : List Lexeme) (v : Flagged (List Routine)) (n : ℕ) → OneMore before found l m ts v n → Some_tokens ts
+one_more_tokens : (before : List (List ℕ)) (found : Flagged (List SeenFunction)) (l m : ℕ) (ts : List Lexeme) (v : Flagged (List SeenFunction)) (n : ℕ) → OneMore before found l m ts v n → Some_tokens ts
 one_more_tokens before found l m all v n (seq m1 k1 n1 ts us c v1 (passes m2 t h) r) = record { token = t; others = us; text = refl }
 
-never_none : (before : List (List ℕ)) (found : Flagged (List Routine)) (m : ℕ) (v : Flagged (List Routine)) (n : ℕ) → OnLine (OneMore before found) m [] v n → ⊥
+never_none : (before : List (List ℕ)) (found : Flagged (List SeenFunction)) (m : ℕ) (v : Flagged (List SeenFunction)) (n : ℕ) → OnLine (OneMore before found) m [] v n → ⊥
 never_none before found m v n r = by [] r refl where
   by : (ts : List Lexeme) → OnLine (OneMore before found) m ts v n → ts ≡ [] → ⊥
   by ts (on_line_is l m1 n1 ts1 v1 x e) q = let t = one_more_tokens before found l m1 ts1 v1 n1 x in let g : [] ≡ t.token ∷ t.others = sym q ∙ t.text in absurd cc
 
-live_function : (before : List (List ℕ)) (found : Flagged (List Routine)) (m : ℕ) → Live (OnLine (OneMore before found)) m
+live_function : (before : List (List ℕ)) (found : Flagged (List SeenFunction)) (m : ℕ) → Live (OnLine (OneMore before found)) m
 live_function before found m = record {
   tokens = word 1 (codes "function") ∷ name_token 1 (fresh_name before) ∷ sign 1 (codes "(") ∷ name_token 1 [] ∷ sign 1 (codes ",") ∷ name_token 1 [] ∷ sign 1 (codes ",") ∷ name_token 1 [] ∷ sign 1 (codes ")") ∷ sign 1 (codes ";") ∷ word 1 (codes "end") ∷ [];
   value = _;
@@ -279,7 +279,7 @@ live_function before found m = record {
       (functions_rule m m [] [] _ (no_functions m) refl refl)))) refl;
 }
 
-pub exact_functions : (k d n : ℕ) (before : List (List ℕ)) (found : Flagged (List Routine)) → Ending (FunctionsRule before found) (functions_from k d n before found)
+pub exact_functions : (k d n : ℕ) (before : List (List ℕ)) (found : Flagged (List SeenFunction)) → Ending (FunctionsRule before found) (functions_from k d n before found)
 unfolding functions_from
 exact_functions k d zero before found = end_tired (FunctionsRule before found) (λ m. record { tokens = []; value = found; next = m; holds = functions_rule m m [] [] found (no_functions m) refl (sym (extended_none routine_trees found)) }) _ (λ i. refl)
 exact_functions k d (suc n) before found =
@@ -332,7 +332,7 @@ both_of_new s before (u ∷ ss) h g =
       not_or true b h g = absurd (true≢false h)
       not_or false b h g = g
 
-new_distinct : (before : List (List ℕ)) (fs : List Routine) → all_new before fs ≡ true → (are_distinct (map function_name fs) ≡ true) × (list_all (λ u. is_new before u) (map function_name fs) ≡ true)
+new_distinct : (before : List (List ℕ)) (fs : List SeenFunction) → all_new before fs ≡ true → (are_distinct (map function_name fs) ≡ true) × (list_all (λ u. is_new before u) (map function_name fs) ≡ true)
 new_distinct before [] h = (refl, refl)
 new_distinct before (f ∷ fs) h =
     let p = and_parts (is_new before f.name) (all_new (f.name ∷ before) fs) h in
@@ -340,7 +340,7 @@ new_distinct before (f ∷ fs) h =
     let r = new_of_both f.name before (map function_name fs) q.1 in
     (and_from (not (list_any (is_text f.name) (map function_name fs))) _ (ap not r.0) q.0, and_from (is_new before f.name) _ p.0 r.1)
 
-distinct_new : (before : List (List ℕ)) (fs : List Routine) → are_distinct (map function_name fs) ≡ true → list_all (λ u. is_new before u) (map function_name fs) ≡ true → all_new before fs ≡ true
+distinct_new : (before : List (List ℕ)) (fs : List SeenFunction) → are_distinct (map function_name fs) ≡ true → list_all (λ u. is_new before u) (map function_name fs) ≡ true → all_new before fs ≡ true
 distinct_new before [] h g = refl
 distinct_new before (f ∷ fs) h g =
     let p = and_parts (not (list_any (is_text f.name) (map function_name fs))) _ h in
@@ -354,8 +354,8 @@ all_new_first : (ss : List (List ℕ)) → list_all (λ u. is_new [] u) ss ≡ t
 all_new_first [] = refl
 all_new_first (s ∷ ss) = all_new_first ss
 
-pub distinct_is_new : (fs : List Routine) → are_distinct (map function_name fs) ≡ true → all_new [] fs ≡ true
+pub distinct_is_new : (fs : List SeenFunction) → are_distinct (map function_name fs) ≡ true → all_new [] fs ≡ true
 distinct_is_new fs h = distinct_new [] fs h (all_new_first (map function_name fs))
 
-pub new_is_distinct : (fs : List Routine) → all_new [] fs ≡ true → are_distinct (map function_name fs) ≡ true
+pub new_is_distinct : (fs : List SeenFunction) → all_new [] fs ≡ true → are_distinct (map function_name fs) ≡ true
 new_is_distinct fs h = (new_distinct [] fs h).0

@@ -4,7 +4,7 @@ use Rattle.std.proofs.Math.Seq.{drop-append_seam}
 use Rattle.std.specs.Prelude.{Ok, Err}
 use Rattle.tall_grammar.specs.declared.faults.Fault.TheVariants.{Stop, Memory}
 use Rattle.tall_grammar.specs.Lexemes.{Lexeme}
-use Rattle.tall_grammar.specs.Trees.{Program}
+use Rattle.tall_grammar.specs.Trees.{SeenScript}
 use Rattle.tall_grammar.specs.Grammar.{IsScript}
 use Rattle.tall_grammar.specs.Refusals.{program_trees, too_high, too_deep, GoesOn, StopsAt, EndsEarly, Answer, read, too_deep_at, syntax_at, Reads, is_too_deep, stops_short, ends_early, is_too_high, is_script}
 use Rattle.tall_grammar.specs.Kept.{Flagged, flagged, flagged_by}
@@ -15,13 +15,13 @@ use Rattle.tall_grammar.proofs.Verdict.{read_is_script, only_read, stopped_is_no
 
 -- ---- what is told of a script
 
-told_by : (o : Option ℕ) (s : Program) (v : Flagged Program) → v ≡ flagged_by o s → (l : ℕ) → o ≡ Some l → of_flag v ≡ too_deep_at l
+told_by : (o : Option ℕ) (s : SeenScript) (v : Flagged SeenScript) → v ≡ flagged_by o s → (l : ℕ) → o ≡ Some l → of_flag v ≡ too_deep_at l
 told_by o s v q l e = ap of_flag (q ∙ ap (λ o. flagged_by o s) e)
 
-told_read : (o : Option ℕ) (s : Program) (v : Flagged Program) → v ≡ flagged_by o s → o ≡ None → of_flag v ≡ read s
+told_read : (o : Option ℕ) (s : SeenScript) (v : Flagged SeenScript) → v ≡ flagged_by o s → o ≡ None → of_flag v ≡ read s
 told_read o s v q e = ap of_flag (q ∙ ap (λ o. flagged_by o s) e)
 
-script_tells : (last : ℕ) (ts : List Lexeme) (s : Program) (v : Flagged Program) → too_deep ts ≡ None → IsScript ts s → v ≡ flagged (program_trees s) s → Reads last ts (of_flag v)
+script_tells : (last : ℕ) (ts : List Lexeme) (s : SeenScript) (v : Flagged SeenScript) → too_deep ts ≡ None → IsScript ts s → v ≡ flagged (program_trees s) s → Reads last ts (of_flag v)
 script_tells last ts s v deep r q = (elim (too_high s) as (λ o. too_high s ≡ o → Reads last ts (of_flag v)) [
   | None ↦ λ e. subst (λ (a : Answer). Reads last ts a) (sym (told_read (too_high s) s v q e)) (is_script deep r e)
   | Some l ↦ λ e. subst (λ (a : Answer). Reads last ts a) (sym (told_by (too_high s) s v q l e)) (is_too_high deep r e)
@@ -32,7 +32,7 @@ script_tells last ts s v deep r q = (elim (too_high s) as (λ o. too_high s ≡ 
 prefix_goes : (ts us : List Lexeme) → GoesOn (ts ++ us) → GoesOn ts
 prefix_goes ts us g = (us ++ g.0, g.1, subst (λ (w : List Lexeme). IsScript w g.1) (append_assoc ts us g.0) g.2)
 
-script_goes : (ts front : List Lexeme) (stop : Lexeme) (rest : List Lexeme) (s : Program) → ts ≡ front ++ stop ∷ rest → IsScript ts s → GoesOn (front ++ stop ∷ [])
+script_goes : (ts front : List Lexeme) (stop : Lexeme) (rest : List Lexeme) (s : SeenScript) → ts ≡ front ++ stop ∷ rest → IsScript ts s → GoesOn (front ++ stop ∷ [])
 script_goes ts front stop rest s e r = (rest, s, subst (λ (w : List Lexeme). IsScript w s) (e ∙ sym (append_assoc front (stop ∷ []) rest)) r)
 
 -- one front is the other's with its stop, or the stops are one
@@ -69,7 +69,7 @@ left_is ts front left n e c =
 module _ (k d last : ℕ) (ts : List Lexeme) (deep : too_deep ts ≡ None) where
   -- ---- what the reader says is the answer
 
-  pub read_tells : (v : Flagged Program) (j : Input) → program k d (input ts 1) ≡ Ok (v, j) → Reads last ts (of_flag v)
+  pub read_tells : (v : Flagged SeenScript) (j : Input) → program k d (input ts 1) ≡ Ok (v, j) → Reads last ts (of_flag v)
   read_tells v j h = let u = read_is_script k d ts v j h in script_tells last ts u.script v deep u.holds u.told
 
   -- a stop as the definitions have it
@@ -101,7 +101,7 @@ module _ (k d last : ℕ) (ts : List Lexeme) (deep : too_deep ts ≡ None) where
   no_depth : (l : ℕ) → too_deep ts ≡ Some l → ⊥
   no_depth l e = let g : ◌≡◌ {A = Option ℕ} None (Some l) = sym deep ∙ e in absurd cc
 
-  pub read_alone : (v : Flagged Program) (j : Input) → program k d (input ts 1) ≡ Ok (v, j) → (a : Answer) → Reads last ts a → a ≡ of_flag v
+  pub read_alone : (v : Flagged SeenScript) (j : Input) → program k d (input ts 1) ≡ Ok (v, j) → (a : Answer) → Reads last ts a → a ≡ of_flag v
   read_alone v j h a (is_too_deep {l} e) = absurd (no_depth l e)
   read_alone v j h a (stops_short {l} e s) = let u = read_is_script k d ts v j h in absurd (s.stops (script_goes ts s.front s.stop s.rest u.script s.text u.holds))
   read_alone v j h a (ends_early e s) = let u = read_is_script k d ts v j h in absurd (s.ends u.script u.holds)
@@ -126,7 +126,7 @@ module _ (k d last : ℕ) (ts : List Lexeme) (deep : too_deep ts ≡ None) where
 pub said_tells : (k d last : ℕ) (ts : List Lexeme) (answer : Answer) → too_deep ts ≡ None → said last ts (program k d (input ts 1)) ≡ Some answer → Reads last ts answer
 said_tells k d last ts answer deep e = by (program k d (input ts 1)) refl e
   where
-    by : (o : Outcome (Flagged Program)) → program k d (input ts 1) ≡ o → said last ts o ≡ Some answer → Reads last ts answer
+    by : (o : Outcome (Flagged SeenScript)) → program k d (input ts 1) ≡ o → said last ts o ≡ Some answer → Reads last ts answer
     by (Ok p) h q = let same : of_flag p.0 ≡ answer = cc in subst (Reads last ts) same (read_tells k d last ts deep p.0 p.1 h)
     by (Err (Stop n)) h q = let same : syntax_from last ts n ≡ answer = cc in subst (Reads last ts) same (stop_tells k d last ts deep n h)
     by (Err Memory) h q = absurd cc
@@ -135,7 +135,7 @@ pub said_alone : (k d last : ℕ) (ts : List Lexeme) (answer other : Answer) →
     → Reads last ts other → other ≡ answer
 said_alone k d last ts answer other deep e r = by (program k d (input ts 1)) refl e
   where
-    by : (o : Outcome (Flagged Program)) → program k d (input ts 1) ≡ o → said last ts o ≡ Some answer → other ≡ answer
+    by : (o : Outcome (Flagged SeenScript)) → program k d (input ts 1) ≡ o → said last ts o ≡ Some answer → other ≡ answer
     by (Ok p) h q = let same : of_flag p.0 ≡ answer = cc in read_alone k d last ts deep p.0 p.1 h other r ∙ same
     by (Err (Stop n)) h q = let same : syntax_from last ts n ≡ answer = cc in stop_alone k d last ts deep n h other r ∙ same
     by (Err Memory) h q = absurd cc

@@ -8,7 +8,7 @@ use Rattle.tall_grammar.specs.declared.expressions.Infix.{Infix}
 use Rattle.tall_grammar.specs.declared.expressions.Infix.TheVariants.{Or, And}
 use Rattle.tall_grammar.specs.Lexemes.{Lexeme, sign, word, name_token, number_token, text_token, number_value, text_value, is_separator, shows, is_text, comparison, additive, multiplicative, prefix_sign}
 use Rattle.tall_grammar.specs.Trees.{Tree, tree, number, text, name, list, handle, prefixed, joined, member, call, Trees, no_trees, and_tree, Args, no_args, value_arg, colon_arg}
-use Rattle.tall_grammar.specs.Trees.{Step, assign_step, add_step, if_step, while_step, for_step, Steps, no_steps, and_step, Arms, no_arms, and_arm, Body, assigned, gathered, property, bare, Entry, Routine, Program}
+use Rattle.tall_grammar.specs.Trees.{Step, assign_step, add_step, if_step, while_step, for_step, Steps, no_steps, and_step, Arms, no_arms, and_arm, Body, assigned, gathered, property, bare, SeenStatement, SeenFunction, SeenScript}
 
 -- { sep }
 abbrev pub AreSeparators : List Lexeme → Type 0
@@ -138,9 +138,9 @@ pub data IsBody : ℕ → ℕ → List Lexeme → Body → ℕ → Type 0 where
   bare_body : (l m n : ℕ) (ts : List Lexeme) (e : Tree) → IsExpr l m ts e n → first_line ts ≡ Some l → IsBody l m ts (bare e) n
 
 -- { statement }, with statement = body sep { sep }; the first separator says whether it is shown
-pub data AreStatements : ℕ → List Lexeme → List Entry → ℕ → Type 0 where
+pub data AreStatements : ℕ → List Lexeme → List SeenStatement → ℕ → Type 0 where
   no_statements : (m : ℕ) → AreStatements m [] [] m
-  next_statement : (l m k n : ℕ) (ts ps us : List Lexeme) (p : Lexeme) (b : Body) (bs : List Entry) → IsBody l m ts b k
+  next_statement : (l m k n : ℕ) (ts ps us : List Lexeme) (p : Lexeme) (b : Body) (bs : List SeenStatement) → IsBody l m ts b k
       → IsTrue (is_separator p) → AreSeparators ps → AreStatements k us bs n
       → AreStatements m (ts ++ p ∷ (ps ++ us)) (record { line = l; shown = shows p; form = b } ∷ bs) n
 
@@ -194,10 +194,10 @@ mutual
 
 -- { function }, with
 -- function = 'function' name '(' par ',' par ',' par ')' sep { sep } { fstat } 'end' { sep }
-pub data AreFunctions : ℕ → List Lexeme → List Routine → ℕ → Type 0 where
+pub data AreFunctions : ℕ → List Lexeme → List SeenFunction → ℕ → Type 0 where
   no_functions : (m : ℕ) → AreFunctions m [] [] m
   next_function : (l m k n p q r u v w : ℕ) (s : List ℕ) (t1 t2 t3 sep : Lexeme) (a b c : Option (List ℕ))
-      (ps ts qs us : List Lexeme) (body : Steps) (fs : List Routine)
+      (ps ts qs us : List Lexeme) (body : Steps) (fs : List SeenFunction)
       → IsParameter t1 a → IsParameter t2 b → IsParameter t3 c → IsTrue (is_separator sep) → AreSeparators ps
       → AreSteps m ts body k → AreSeparators qs → AreFunctions k us fs n
       → AreFunctions m (word l (codes "function") ∷ name_token p s ∷ sign q (codes "(") ∷ t1 ∷ sign r (codes ",") ∷ t2
@@ -209,15 +209,15 @@ abbrev pub are_distinct : List (List ℕ) → Bool
 are_distinct [] = true
 are_distinct (s ∷ ss) = not (list_any (is_text s) ss) && are_distinct ss
 
-abbrev pub function_name : Routine → List ℕ
+abbrev pub function_name : SeenFunction → List ℕ
 function_name f = f.name
 
 -- script = { sep } { statement } { function }; in place of a last sep the text may end. Numbers begin at 1.
-pub data IsScript : List Lexeme → Program → Type 0 where
-  a_script : (k n : ℕ) (ps ts us : List Lexeme) (bs : List Entry) (fs : List Routine) → AreSeparators ps
+pub data IsScript : List Lexeme → SeenScript → Type 0 where
+  a_script : (k n : ℕ) (ps ts us : List Lexeme) (bs : List SeenStatement) (fs : List SeenFunction) → AreSeparators ps
       → AreStatements 1 ts bs k → AreFunctions k us fs n → IsTrue (are_distinct (map function_name fs))
       → IsScript (ps ++ (ts ++ us)) (record { statements = bs; functions = fs })
-  a_script_to_the_end : (l k n : ℕ) (ps ts us : List Lexeme) (bs : List Entry) (b : Body) → AreSeparators ps
+  a_script_to_the_end : (l k n : ℕ) (ps ts us : List Lexeme) (bs : List SeenStatement) (b : Body) → AreSeparators ps
       → AreStatements 1 ts bs k → IsBody l k us b n
       → IsScript (ps ++ (ts ++ us))
       (record { statements = bs ++ record { line = l; shown = true; form = b } ∷ []; functions = [] })

@@ -9,12 +9,12 @@ use Rattle.tall_grammar.specs.Grammar.{no_more_texts, more_texts, none_listed, s
 use Rattle.tall_grammar.specs.Grammar.{one_conj, or_conj, one_cmp, and_cmp, one_sum, compared_sum, one_prod, added_prod, one_pre, multiplied_pre, one_post, prefixed_pre, one_primary, member_of, call_of, a_number, a_text, a_name, inside, a_list, a_handle}
 use Rattle.tall_grammar.specs.Grammar.{named, passed_over, without_steps, next_step, name_step, adding_step, choosing_step, looping_step, counting_step, an_arm, an_else, an_elseif, no_functions, next_function}
 use Rattle.tall_grammar.specs.Trees.{tree, number, text, name, list, handle, prefixed, joined, member, call, no_trees, and_tree, no_args, value_arg, colon_arg}
-use Rattle.tall_grammar.specs.Trees.{assign_step, add_step, if_step, while_step, for_step, no_steps, and_step, no_arms, and_arm, Body, assigned, gathered, property, bare, Entry}
+use Rattle.tall_grammar.specs.Trees.{assign_step, add_step, if_step, while_step, for_step, no_steps, and_step, no_arms, and_arm, Body, assigned, gathered, property, bare, SeenStatement}
 
 abbrev line_end : ℕ → Lexeme
 line_end l = record { kind = LineEnd; line = l; text = 10 ∷ [] }
 
-abbrev entry : ℕ → Bool → Body → Entry
+abbrev entry : ℕ → Bool → Body → SeenStatement
 entry l shown b = record { line = l; shown = shown; form = b }
 
 -- nothing

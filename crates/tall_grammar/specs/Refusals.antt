@@ -8,7 +8,7 @@ use Rattle.tall_lex.specs.Tokens.{tokens_of_bytes}
 use Rattle.tall_grammar.specs.Lexemes.{Lexeme, lexemes_of, is_the_sign, is_the_word}
 use Rattle.tall_grammar.specs.Grammar.{IsScript}
 use Rattle.tall_grammar.specs.Trees.{Tree, tree, Shape, number, text, name, list, handle, prefixed, joined, member, call, Trees, no_trees, and_tree, Args, no_args, value_arg, colon_arg}
-use Rattle.tall_grammar.specs.Trees.{Step, assign_step, add_step, if_step, while_step, for_step, Steps, no_steps, and_step, Arms, no_arms, and_arm, Body, assigned, gathered, property, bare, Program}
+use Rattle.tall_grammar.specs.Trees.{Step, assign_step, add_step, if_step, while_step, for_step, Steps, no_steps, and_step, Arms, no_arms, and_arm, Body, assigned, gathered, property, bare, SeenScript}
 
 -- ---- too deep by brackets and blocks
 
@@ -94,7 +94,7 @@ abbrev mutual
   arms_trees no_arms = []
   arms_trees (and_arm e b arms) = e ∷ (steps_trees b ++ arms_trees arms)
 
-abbrev pub program_trees : Program → List Tree
+abbrev pub program_trees : SeenScript → List Tree
 program_trees s = flat_map (λ b. body_trees b.form) s.statements ++ flat_map (λ f. steps_trees f.body) s.functions
 
 abbrev pub line_of : Tree → ℕ
@@ -105,7 +105,7 @@ abbrev pub first_too_high : List Tree → Option ℕ
 first_too_high [] = None
 first_too_high (e ∷ es) = if nat_lt limit (height e) then Some (line_of e) else first_too_high es
 
-abbrev pub too_high : Program → Option ℕ
+abbrev pub too_high : SeenScript → Option ℕ
 too_high s = first_too_high (program_trees s)
 
 -- ---- the first token with which no script goes on
@@ -113,7 +113,7 @@ too_high s = first_too_high (program_trees s)
 -- Some script begins with these tokens. The tokens that follow may be any: what is asked is whether the grammar goes on, not
 -- whether bytes spell what follows.
 abbrev pub GoesOn : List Lexeme → Type 0
-GoesOn ts = (more : List Lexeme) × (s : Program) × IsScript (ts ++ more) s
+GoesOn ts = (more : List Lexeme) × (s : SeenScript) × IsScript (ts ++ more) s
 
 -- With `front` a script goes on, and with the token behind no more.
 pub record StopsAt (ts : List Lexeme) (line : ℕ) : Type 0 where
@@ -128,12 +128,12 @@ pub record StopsAt (ts : List Lexeme) (line : ℕ) : Type 0 where
 -- The tokens are no script, though one goes on with them: the text ends too early.
 pub record EndsEarly (ts : List Lexeme) : Type 0 where
   pub goes : GoesOn ts
-  pub ends : (s : Program) → ¬ (IsScript ts s)
+  pub ends : (s : SeenScript) → ¬ (IsScript ts s)
 
 -- ---- what bytes are
 
 pub data Answer : Type 0 where
-  read : Program → Answer
+  read : SeenScript → Answer
   too_long : Answer
   bad_token : (line place : ℕ) → Answer
   too_deep_at : (line : ℕ) → Answer
@@ -152,8 +152,8 @@ pub data Reads (last : ℕ) (ts : List Lexeme) : Answer → Type 0 where
   is_too_deep : {l : ℕ} → too_deep ts ≡ Some l → Reads last ts (too_deep_at l)
   stops_short : {l : ℕ} → too_deep ts ≡ None → StopsAt ts l → Reads last ts (syntax_at l)
   ends_early : too_deep ts ≡ None → EndsEarly ts → Reads last ts (syntax_at last)
-  is_too_high : {l : ℕ} {s : Program} → too_deep ts ≡ None → IsScript ts s → too_high s ≡ Some l → Reads last ts (too_deep_at l)
-  is_script : {s : Program} → too_deep ts ≡ None → IsScript ts s → too_high s ≡ None → Reads last ts (read s)
+  is_too_high : {l : ℕ} {s : SeenScript} → too_deep ts ≡ None → IsScript ts s → too_high s ≡ Some l → Reads last ts (too_deep_at l)
+  is_script : {s : SeenScript} → too_deep ts ≡ None → IsScript ts s → too_high s ≡ None → Reads last ts (read s)
 
 -- what the bytes are
 pub data Parses (bytes : List ℕ) : Answer → Type 0 where

@@ -6,7 +6,7 @@ use Rattle.tall_grammar.specs.Lexemes.{Lexeme, is_the_sign, is_the_word, is_sepa
 use Rattle.tall_grammar.specs.Readers.{Reader, ◌>>=◌, pure, tired, given, given_if, peek, take_as, take_text, expect, expect_sign, expect_word, is_name, front_is, all_but_front, skip_separators, listed}
 use Rattle.tall_grammar.specs.Kept.{Kept, Flagged, settled, with_it, with_both, and_last}
 use Rattle.tall_grammar.specs.ExprReader.{expr_within, closed_args}
-use Rattle.tall_grammar.specs.Trees.{Tree, Step, assign_step, add_step, if_step, while_step, for_step, Steps, Body, assigned, gathered, property, bare, Entry, Routine, Program}
+use Rattle.tall_grammar.specs.Trees.{Tree, Step, assign_step, add_step, if_step, while_step, for_step, Steps, Body, assigned, gathered, property, bare, SeenStatement, SeenFunction, SeenScript}
 use Rattle.tall_grammar.specs.Views.{args_of, steps_of, arms_of}
 
 -- the line of the first token, or 0 where there is none
@@ -62,7 +62,7 @@ ended = λ i. if at_end i.rest then Ok (true, i) else separators i
 
 -- ---- what begins and ends statements
 
-abbrev pub entry_of : ℕ → Bool → Body → Entry
+abbrev pub entry_of : ℕ → Bool → Body → SeenStatement
 entry_of l shown b = record { line = l; shown = shown; form = b }
 
 abbrev pub ends_statements : List Lexeme → Bool
@@ -86,7 +86,7 @@ set_to s t e = with_it (property s t) e
 abbrev pub bare_of : Flagged Tree → Flagged Body
 bare_of e = with_it bare e
 
-abbrev pub entry_by : ℕ → Bool → Flagged Body → Flagged Entry
+abbrev pub entry_by : ℕ → Bool → Flagged Body → Flagged SeenStatement
 entry_by l shown b = with_it (entry_of l shown) b
 
 -- ---- statements of functions by their parts
@@ -144,11 +144,11 @@ module _ (k d : ℕ) where
       else if begins_targets i.rest then gathering l i
       else bare_expression l i
 
-  abbrev pub statement : ℕ → Reader (Flagged Entry)
+  abbrev pub statement : ℕ → Reader (Flagged SeenStatement)
   statement l = body l >>= (λ b. ended >>= (λ shown. pure (with_it (entry_of l shown) b)))
 
   -- { statement }, behind those that were found
-  unfoldable pub statements_from : ℕ → Flagged (List Entry) → Reader (Flagged (List Entry))
+  unfoldable pub statements_from : ℕ → Flagged (List SeenStatement) → Reader (Flagged (List SeenStatement))
   statements_from zero found = tired
   statements_from (suc n) found = λ i.
       if ends_statements i.rest then Ok (found, i)
@@ -242,21 +242,21 @@ parameters =
 abbrev pub new_name : List (List ℕ) → Lexeme → Option (List ℕ)
 new_name before t = if is_name t && not (list_any (is_text t.text) before) then Some t.text else None
 
-abbrev pub routine : ℕ → List ℕ → List (Option (List ℕ)) → List Step → Routine
+abbrev pub routine : ℕ → List ℕ → List (Option (List ℕ)) → List Step → SeenFunction
 routine l s params body = record { name = s; line = l; params = params; body = steps_of body }
 
-abbrev pub program_of_parts : List Entry → List Routine → Program
+abbrev pub program_of_parts : List SeenStatement → List SeenFunction → SeenScript
 program_of_parts bs fs = record { statements = bs; functions = fs }
 
 module _ (k d : ℕ) where
   -- a function behind its name
-  abbrev pub function_rest : ℕ → List ℕ → Reader (Flagged Routine)
+  abbrev pub function_rest : ℕ → List ℕ → Reader (Flagged SeenFunction)
   function_rest l s =
       parameters >>= (λ params. separators >>= (λ _. steps_within k d d >>= (λ body. expect_word (codes "end") >>= (λ _.
       skip_separators >>= (λ _. pure (with_it (routine l s params) body))))))
 
   -- { function }, behind those that were found, with their names
-  unfoldable pub functions_from : ℕ → List (List ℕ) → Flagged (List Routine) → Reader (Flagged (List Routine))
+  unfoldable pub functions_from : ℕ → List (List ℕ) → Flagged (List SeenFunction) → Reader (Flagged (List SeenFunction))
   functions_from zero before found = tired
   functions_from (suc n) before found = λ i.
       if at_end i.rest then Ok (found, i)
@@ -265,7 +265,7 @@ module _ (k d : ℕ) where
 
   -- ---- scripts
 
-  abbrev pub program : Reader (Flagged Program)
+  abbrev pub program : Reader (Flagged SeenScript)
   program =
       skip_separators >>= (λ _. statements_from k d k (Ok []) >>= (λ bs. functions_from k [] (Ok []) >>= (λ fs.
       pure (with_both program_of_parts bs fs))))

@@ -52,17 +52,17 @@ pub data Body : Type 0 where
   property : (name property : List ℕ) → Tree → Body
   bare : Tree → Body
 
-pub record Entry : Type 0 where
+pub record SeenStatement : Type 0 where
   pub line : ℕ
   pub shown : Bool
   pub form : Body
 
-pub record Routine : Type 0 where
+pub record SeenFunction : Type 0 where
   pub name : List ℕ
   pub line : ℕ
   pub params : List (Option (List ℕ))
   pub body : Steps
 
-pub record Program : Type 0 where
-  pub statements : List Entry
-  pub functions : List Routine
+pub record SeenScript : Type 0 where
+  pub statements : List SeenStatement
+  pub functions : List SeenFunction

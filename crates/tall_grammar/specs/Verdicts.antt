@@ -8,9 +8,9 @@ use Rattle.tall_grammar.specs.Kept.{Flagged}
 use Rattle.tall_grammar.specs.Readers.{Outcome, input}
 use Rattle.tall_grammar.specs.Refusals.{Answer, bad_token, last_line, longest, read, syntax_at, too_deep, too_deep_at, too_long}
 use Rattle.tall_grammar.specs.ScriptReader.{program}
-use Rattle.tall_grammar.specs.Trees.{Program}
+use Rattle.tall_grammar.specs.Trees.{SeenScript}
 
-abbrev pub of_flag : Flagged Program → Answer
+abbrev pub of_flag : Flagged SeenScript → Answer
 of_flag (Ok s) = read s
 of_flag (Err high) = too_deep_at high.line
 
@@ -24,7 +24,7 @@ abbrev pub syntax_from : ℕ → List Lexeme → ℕ → Answer
 syntax_from last ts n = syntax_at (line_from last (drop (length ts - n) ts))
 
 -- of tokens whose last line is given; nothing where the reader ran out of turns or depth
-abbrev pub said : ℕ → List Lexeme → Outcome (Flagged Program) → Option Answer
+abbrev pub said : ℕ → List Lexeme → Outcome (Flagged SeenScript) → Option Answer
 said last ts (Ok p) = Some (of_flag p.0)
 said last ts (Err (Stop n)) = Some (syntax_from last ts n)
 said last ts (Err Memory) = None

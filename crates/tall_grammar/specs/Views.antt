@@ -11,7 +11,7 @@ use Rattle.tall_grammar.specs.declared.scripts.Statement.{Statement}
 use Rattle.tall_grammar.specs.declared.scripts.Function.{Function}
 use Rattle.tall_grammar.specs.declared.scripts.Script.{Script}
 use Rattle.tall_grammar.specs.Trees.{Tree, tree, Shape, number, text, name, list, handle, prefixed, joined, member, call, Trees, no_trees, and_tree, Args, no_args, value_arg, colon_arg}
-use Rattle.tall_grammar.specs.Trees.{Step, assign_step, add_step, if_step, while_step, for_step, Steps, no_steps, and_step, Arms, no_arms, and_arm, Body, assigned, gathered, property, bare, Entry, Routine, Program}
+use Rattle.tall_grammar.specs.Trees.{Step, assign_step, add_step, if_step, while_step, for_step, Steps, no_steps, and_step, Arms, no_arms, and_arm, Body, assigned, gathered, property, bare, SeenStatement, SeenFunction, SeenScript}
 
 -- ---- expressions
 
@@ -80,11 +80,11 @@ body_of (Gather ss args) = gathered ss (args_of (map arg_of args))
 body_of (Property s t e) = property s t (tree_of e)
 body_of (Bare e) = bare (tree_of e)
 
-abbrev pub entry_of : Statement → Entry
+abbrev pub entry_of : Statement → SeenStatement
 entry_of s = record { line = s.line; shown = s.shown; form = body_of s.form }
 
-abbrev pub routine_of : Function → Routine
+abbrev pub routine_of : Function → SeenFunction
 routine_of f = record { name = f.name; line = f.line; params = f.params; body = steps_of (map step_of f.body) }
 
-abbrev pub program_of : Script → Program
+abbrev pub program_of : Script → SeenScript
 program_of s = record { statements = map entry_of s.statements; functions = map routine_of s.functions }

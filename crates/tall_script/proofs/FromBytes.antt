@@ -10,7 +10,7 @@ use Rattle.tall_lex.specs.Pieces.{piece_at, name_piece, number_piece, number_len
 use Rattle.tall_lex.specs.Tokens.{tokens_from, tokens_of_bytes}
 use Rattle.tall_lex.specs.declared.tokens.TokenKind.TheVariants.{LineEnd}
 use Rattle.tall_grammar.specs.Lexemes.{Lexeme, sign}
-use Rattle.tall_grammar.specs.Trees.{Program}
+use Rattle.tall_grammar.specs.Trees.{SeenScript}
 use Rattle.tall_grammar.specs.Grammar.{a_script, no_functions, no_statements, next_statement, name_body, one_conj, one_cmp, one_sum, one_prod, one_pre, one_post, one_primary, member_of, call_of, a_text, a_name, a_list, in_braces, some_listed, no_more_texts, with_args, last_value, next_value}
 use Rattle.tall_grammar.specs.Refusals.{Parses, has_tokens, is_script, read}
 use Rattle.tall_script.specs.Answers.{Answers, of_script}
@@ -21,7 +21,7 @@ use Rattle.tall_script.specs.RowWords.{prints, whole_runs}
 line_end : ℕ → Lexeme
 line_end l = record { kind = LineEnd; line = l; text = 10 ∷ [] }
 
-first_script : Program
+first_script : SeenScript
 first_script = script (
     silent 1 (sets "ds" (call "tabularTextDatastore" (text "a.csv" ∷ text "TextscanFormats" ∷ texts ("%d16" ∷ []) ∷ [])))
     ∷ silent 2 (sets "T" (call "tall" (name "ds" ∷ [])))

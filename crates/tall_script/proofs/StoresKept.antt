@@ -10,7 +10,7 @@ use Rattle.tall_store.specs.declared.faults.StoreFault.{StoreFault}
 use Rattle.tall_store.specs.Opening.{opening}
 use Rattle.tall_store.specs.Options.{SeenOptions}
 use Rattle.tall_store.specs.Stores.{SeenStore}
-use Rattle.tall_grammar.specs.Trees.{Args, Body, assigned, gathered, property, bare, Entry, Routine, Tree, tree}
+use Rattle.tall_grammar.specs.Trees.{Args, Body, assigned, gathered, property, bare, SeenStatement, SeenFunction, Tree, tree}
 use Rattle.tall_grammar.specs.Trees as trees
 use Rattle.tall_script.specs.Arguments.{Argument}
 use Rattle.tall_script.specs.Datastores.{datastore_call, options_in, first_opening, made_store, store_with}
@@ -101,7 +101,7 @@ tabled : (r : Result Memory Stop) (s : State Tall) → Follows s (state_after (t
 tabled (Ok v) s = same_state s
 tabled (Err stop) s = same_state s
 
-reduces : (files : Files) (at : At) (d : Option Store) (m r : Option Routine) (s : State Tall) → Follows s (state_after (reduce_store files at d m r s))
+reduces : (files : Files) (at : At) (d : Option Store) (m r : Option SeenFunction) (s : State Tall) → Follows s (state_after (reduce_store files at d m r s))
 reduces files at None m r s = same_state s
 reduces files at (Some d) None r s = same_state s
 reduces files at (Some d) (Some m) None s = same_state s
@@ -185,7 +185,7 @@ next_follows : (s : State Tall) (d : Done) (rest : State Tall → Run) → Follo
 next_follows s (shows text t) rest h k = follows_kept.both s t (rest t).state h (k t)
 next_follows s (fails stop t) rest h k = h
 
-pub run_follows : (setting : Setting) (entries : List Entry) (s : State Tall) → Follows s (run_from setting entries s).state
+pub run_follows : (setting : Setting) (entries : List SeenStatement) (s : State Tall) → Follows s (run_from setting entries s).state
 run_follows setting [] s = same_state s
 run_follows setting (entry ∷ entries) s =
     next_follows s (statement setting entry s) _ (body_follows setting entry.line entry.shown entry.form s) (run_follows setting entries)

@@ -6,7 +6,7 @@ use Rattle.tall_value.specs.declared.class.Kind.TheVariants.{Logical}
 use Rattle.tall_value.specs.Cells.{Seen, double, seen_kind}
 use Rattle.tall_value.specs.ClassTables.{of_number}
 use Rattle.tall_value.specs.CellOperators.{truth}
-use Rattle.tall_grammar.specs.Trees.{Tree, tree, Args, no_args, value_arg, Step, assign_step, add_step, if_step, while_step, for_step, Steps, no_steps, and_step, Arms, no_arms, and_arm, Routine}
+use Rattle.tall_grammar.specs.Trees.{Tree, tree, Args, no_args, value_arg, Step, assign_step, add_step, if_step, while_step, for_step, Steps, no_steps, and_step, Arms, no_arms, and_arm, SeenFunction}
 use Rattle.tall_grammar.specs.Trees as trees
 use Rattle.tall_grammar.specs.Refusals.{line_of}
 use Rattle.tall_script.specs.Names.{named}

@@ -4,7 +4,7 @@ use Prim.Native.String.{String}
 use Rattle.std.specs.Prelude.{ℕ, pos, true, false, List, [], ◌∷◌, Option, Some, codes}
 use Rattle.tall_grammar.specs.declared.expressions.Prefix.TheVariants.{Minus, Not}
 use Rattle.tall_grammar.specs.declared.expressions.Infix.{Infix}
-use Rattle.tall_grammar.specs.Trees.{Tree, tree, Shape, Trees, no_trees, and_tree, Args, no_args, value_arg, colon_arg, Step, assign_step, add_step, if_step, while_step, for_step, Steps, no_steps, and_step, Arms, no_arms, and_arm, Body, assigned, gathered, property, bare, Entry, Routine, Program}
+use Rattle.tall_grammar.specs.Trees.{Tree, tree, Shape, Trees, no_trees, and_tree, Args, no_args, value_arg, colon_arg, Step, assign_step, add_step, if_step, while_step, for_step, Steps, no_steps, and_step, Arms, no_arms, and_arm, Body, assigned, gathered, property, bare, SeenStatement, SeenFunction, SeenScript}
 use Rattle.tall_grammar.specs.Trees as trees
 use Rattle.tall_script.specs.Numbering.{numbered_program}
 
@@ -64,10 +64,10 @@ on_line l (tree k j shape) = tree k l shape
 
 -- ---- statements: on a line, shown or not
 
-abbrev pub shown : ℕ → Body → Entry
+abbrev pub shown : ℕ → Body → SeenStatement
 shown l b = record { line = l; shown = true; form = b }
 
-abbrev pub silent : ℕ → Body → Entry
+abbrev pub silent : ℕ → Body → SeenStatement
 silent l b = record { line = l; shown = false; form = b }
 
 abbrev pub sets : String → Tree → Body
@@ -88,14 +88,14 @@ steps [] = no_steps
 steps (b ∷ bs) = and_step b (steps bs)
 
 -- a function, from a line on
-abbrev pub routine : String → ℕ → List (Option (List ℕ)) → List Step → Routine
+abbrev pub routine : String → ℕ → List (Option (List ℕ)) → List Step → SeenFunction
 routine s l params bs = record { name = codes s; line = l; params = params; body = steps bs }
 
 abbrev pub parameter : String → Option (List ℕ)
 parameter s = Some (codes s)
 
-abbrev pub script_with : List Entry → List Routine → Program
+abbrev pub script_with : List SeenStatement → List SeenFunction → SeenScript
 script_with bs fs = numbered_program (record { statements = bs; functions = fs })
 
-abbrev pub script : List Entry → Program
+abbrev pub script : List SeenStatement → SeenScript
 script bs = script_with bs []

@@ -4,7 +4,7 @@ use Rattle.std.specs.Prelude.{ℕ, ◌+◌, length, List, [], ◌∷◌, ◌++�
 use Rattle.tall_value.specs.Cells.{Seen}
 use Rattle.tall_column.specs.Columns.{SeenColumn}
 use Rattle.tall_outside.specs.Shelf.{Files, file_in}
-use Rattle.tall_grammar.specs.Trees.{Routine}
+use Rattle.tall_grammar.specs.Trees.{SeenFunction}
 use Rattle.tall_store.specs.declared.faults.ReadingFault.{ReadingFault}
 use Rattle.tall_store.specs.Blocks.{block_table, in_blocks, numbered_blocks}
 use Rattle.tall_store.specs.Records.{data_in}
@@ -37,15 +37,15 @@ called (ends s) = record { pairs = s.pairs; stop = None }
 called (breaks stop s) = record { pairs = s.pairs; stop = Some stop }
 
 -- a function over its three arguments, the values of its iterator, and a store
-abbrev pub call_of : Routine → List Held → List Seen → List Pair → Called
+abbrev pub call_of : SeenFunction → List Held → List Seen → List Pair → Called
 call_of f arguments values pairs =
     called (run_steps values f.body (record { names = parameters f.params arguments []; given = 0; turns = 0; pairs = pairs }))
 
 -- the second parameter of a map function has no value
-abbrev pub call_map : Routine → List (List ℕ × SeenColumn) → List Pair → Called
+abbrev pub call_map : SeenFunction → List (List ℕ × SeenColumn) → List Pair → Called
 call_map f block pairs = call_of f (value (table block) ∷ no_value ∷ store ∷ []) [] pairs
 
-abbrev pub call_reduce : Routine → Seen → List Seen → List Pair → Called
+abbrev pub call_reduce : SeenFunction → Seen → List Seen → List Pair → Called
 call_reduce f key values pairs = call_of f (value (scalar key) ∷ iterator ∷ store ∷ []) values pairs
 
 -- ---- blocks
@@ -72,13 +72,13 @@ abbrev pub go_on_with : Called → (List Pair → Result (List Pair) Stop) → R
 go_on_with c f = elim c.stop [ None ↦ f c.pairs | Some stop ↦ Err stop ]
 
 -- by block: its reading fault, else the function's
-abbrev pub mapped : Store → Routine → List (Result (List (List ℕ × SeenColumn)) ReadingFault) → List Pair → Result (List Pair) Stop
+abbrev pub mapped : Store → SeenFunction → List (Result (List (List ℕ × SeenColumn)) ReadingFault) → List Pair → Result (List Pair) Stop
 mapped d f [] pairs = Ok pairs
 mapped d f (Err fault ∷ rest) pairs = Err (stop_of_reading d fault)
 mapped d f (Ok block ∷ rest) pairs = go_on_with (call_map f block pairs) (λ more. mapped d f rest more)
 
 -- by key
-abbrev pub reduced : Routine → List Pair → List Seen → List Pair → Result (List Pair) Stop
+abbrev pub reduced : SeenFunction → List Pair → List Seen → List Pair → Result (List Pair) Stop
 reduced f pairs [] out = Ok out
 reduced f pairs (key ∷ keys) out = go_on_with (call_reduce f key (values_of key pairs) out) (λ more. reduced f pairs keys more)
 
@@ -91,6 +91,6 @@ reduced_table (Ok out) = Ok (pairs_table out)
 reduced_table (Err stop) = Err stop
 
 -- mapreduce(ds, @m, @r)
-unfoldable pub map_reduced : Files → Store → Routine → Routine → Result Memory Stop
+unfoldable pub map_reduced : Files → Store → SeenFunction → SeenFunction → Result Memory Stop
 map_reduced files d m r =
     elim (mapped d m (block_tables d.store files) []) [ Ok pairs ↦ reduced_table (reduced r pairs (keys_of pairs) []) | Err stop ↦ Err stop ]

@@ -1,7 +1,7 @@
 -- The numbers of a script's expressions: the parts in their order, and then the whole. What is numbered stands on a line,
 -- from a number on; the number that comes next is given too.
 use Rattle.std.specs.Prelude.{ℕ, suc, List, [], ◌∷◌}
-use Rattle.tall_grammar.specs.Trees.{Tree, tree, Shape, Trees, no_trees, and_tree, Args, no_args, value_arg, colon_arg, Step, assign_step, add_step, if_step, while_step, for_step, Steps, no_steps, and_step, Arms, no_arms, and_arm, Body, assigned, gathered, property, bare, Entry, Routine, Program}
+use Rattle.tall_grammar.specs.Trees.{Tree, tree, Shape, Trees, no_trees, and_tree, Args, no_args, value_arg, colon_arg, Step, assign_step, add_step, if_step, while_step, for_step, Steps, no_steps, and_step, Arms, no_arms, and_arm, Body, assigned, gathered, property, bare, SeenStatement, SeenFunction, SeenScript}
 use Rattle.tall_grammar.specs.Trees as trees
 use Rattle.tall_grammar.specs.Refusals.{line_of}
 
@@ -63,17 +63,17 @@ abbrev mutual
   numbered_arms (and_arm e b arms) n =
       let p = numbered e (line_of e) n in let q = numbered_steps b p.1 in let r = numbered_arms arms q.1 in (and_arm p.0 q.0 r.0, r.1)
 
-abbrev pub numbered_entries : List Entry → ℕ → List Entry × ℕ
+abbrev pub numbered_entries : List SeenStatement → ℕ → List SeenStatement × ℕ
 numbered_entries [] n = ([], n)
 numbered_entries (b ∷ bs) n =
     let p = numbered_body b.form b.line n in let q = numbered_entries bs p.1 in (record b { form = p.0 } ∷ q.0, q.1)
 
-abbrev pub numbered_routines : List Routine → ℕ → List Routine × ℕ
+abbrev pub numbered_routines : List SeenFunction → ℕ → List SeenFunction × ℕ
 numbered_routines [] n = ([], n)
 numbered_routines (f ∷ fs) n =
     let p = numbered_steps f.body n in let q = numbered_routines fs p.1 in (record f { body = p.0 } ∷ q.0, q.1)
 
 -- numbers begin at 1
-abbrev pub numbered_program : Program → Program
+abbrev pub numbered_program : SeenScript → SeenScript
 numbered_program s =
     let p = numbered_entries s.statements 1 in let q = numbered_routines s.functions p.1 in record { statements = p.0; functions = q.0 }

@@ -7,7 +7,7 @@ use Rattle.tall_value.specs.Cells.{whole, double}
 use Rattle.tall_value.specs.Cells as cell
 use Rattle.tall_column.specs.Columns.{SeenColumn}
 use Rattle.tall_outside.specs.Shelf.{Files}
-use Rattle.tall_grammar.specs.Trees.{Entry, Program, Step}
+use Rattle.tall_grammar.specs.Trees.{SeenStatement, SeenScript, Step}
 use Rattle.csv.proofs.OnLiterals.{csv_on_literals}
 use Rattle.std.proofs.Math.Utf8.{encode}
 use Rattle.std.specs.Fmt.{digits}
@@ -52,7 +52,7 @@ over bytes = (codes "a.csv", bytes) ∷ []
 
 -- 1: ds = tabularTextDatastore('a.csv', 'TextscanFormats', {..});
 -- 2: T = tall(ds);
-abbrev pub usual : List String → List Entry
+abbrev pub usual : List String → List SeenStatement
 usual formats =
     silent 1 (sets "ds" (call "tabularTextDatastore" (draft.text "a.csv" ∷ draft.text "TextscanFormats" ∷ texts formats ∷ [])))
     ∷ silent 2 (sets "T" (call "tall" (name "ds" ∷ []))) ∷ []
@@ -70,7 +70,7 @@ fails line = prints_and_fails [] line
 
 -- ---- what ends a run
 
-abbrev pub ending_of : Files → Program → Option Stop
+abbrev pub ending_of : Files → SeenScript → Option Stop
 ending_of files p = (run files p).ending
 
 abbrev pub at_line : ℕ → Refusal → Option Stop

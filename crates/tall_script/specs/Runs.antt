@@ -2,7 +2,7 @@
 use Rattle.std.specs.Prelude.{ℕ, List, [], ◌∷◌, ◌++◌, Option, None, Some}
 use Rattle.tall_semantics.specs.Talls.{Tall}
 use Rattle.tall_outside.specs.Shelf.{Files}
-use Rattle.tall_grammar.specs.Trees.{Entry, Program}
+use Rattle.tall_grammar.specs.Trees.{SeenStatement, SeenScript}
 use Rattle.tall_script.specs.Refusals.{Stop}
 use Rattle.tall_script.specs.ScriptLanguage.{Setting}
 use Rattle.tall_script.specs.Statements.{Done, shows, fails, statement}
@@ -22,16 +22,16 @@ abbrev pub next : Done → (State Tall → Run) → Run
 next (shows text s) rest = behind text (rest s)
 next (fails stop s) rest = record { text = []; ending = Some stop; state = s }
 
-abbrev pub run_from : Setting → List Entry → State Tall → Run
+abbrev pub run_from : Setting → List SeenStatement → State Tall → Run
 run_from setting [] s = record { text = []; ending = None; state = s }
 run_from setting (entry ∷ entries) s = next (statement setting entry s) (λ t. run_from setting entries t)
 
-abbrev pub setting_of : Files → Program → Setting
+abbrev pub setting_of : Files → SeenScript → Setting
 setting_of files p = record { files = files; functions = p.functions }
 
-abbrev pub run : Files → Program → Run
+abbrev pub run : Files → SeenScript → Run
 run files p = run_from (setting_of files p) p.statements empty_state
 
 -- how often a run may open a file that is not the script
-abbrev pub openings : Files → Program → List ℕ → ℕ
+abbrev pub openings : Files → SeenScript → List ℕ → ℕ
 openings files p file = openings_of file (run files p).state.opened

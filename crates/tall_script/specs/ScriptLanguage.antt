@@ -6,7 +6,7 @@ use Rattle.std.specs.Str.{bytes_eq}
 use Rattle.tall_semantics.specs.Faults.{At}
 use Rattle.tall_semantics.specs.Talls.{Tall}
 use Rattle.tall_outside.specs.Shelf.{Files}
-use Rattle.tall_grammar.specs.Trees.{Tree, Routine}
+use Rattle.tall_grammar.specs.Trees.{Tree, SeenFunction}
 use Rattle.tall_script.specs.Arguments.{Argument, function, given, value_given}
 use Rattle.tall_script.specs.Lists.{all_of}
 use Rattle.tall_script.specs.Names.{named}
@@ -27,10 +27,10 @@ use Rattle.tall_script.specs.MapReduce.{map_reduced}
 -- what a script runs over
 pub record Setting : Type 0 where
   pub files : Files
-  pub functions : List Routine
+  pub functions : List SeenFunction
 
-abbrev pub routine_named : List Routine → List ℕ → Option Routine
-routine_named fs name = find (λ (f : Routine). bytes_eq f.name name) fs
+abbrev pub routine_named : List SeenFunction → List ℕ → Option SeenFunction
+routine_named fs name = find (λ (f : SeenFunction). bytes_eq f.name name) fs
 
 -- ---- names
 
@@ -39,7 +39,7 @@ read_name name (Some v) = Ok v
 read_name name None = elim (constant_named name) [ Some c ↦ Ok (in_memory (scalar c)) | None ↦ Err (undefined name) ]
 
 -- a function that is there is still no value
-abbrev pub handle_refusal : List Routine → List ℕ → Refusal
+abbrev pub handle_refusal : List SeenFunction → List ℕ → Refusal
 handle_refusal fs name = if is_some (routine_named fs name) then bad_argument else undefined name
 
 -- ---- calls
@@ -59,7 +59,7 @@ table_or_stop (Ok v) s = gives (in_memory v) s
 table_or_stop (Err stop) s = stops stop s
 
 -- each file is opened once at most
-abbrev pub reduce_store : Files → At → Option Store → Option Routine → Option Routine → State Tall → Valued TallValue (State Tall)
+abbrev pub reduce_store : Files → At → Option Store → Option SeenFunction → Option SeenFunction → State Tall → Valued TallValue (State Tall)
 reduce_store files at (Some d) (Some m) (Some r) s =
     table_or_stop (map_reduced files d m r) (with_openings (record { files = d.store.files; times = 1 } ∷ []) s)
 reduce_store files at d m r s = stops (stop_at at.line bad_argument) s

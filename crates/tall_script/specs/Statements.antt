@@ -1,7 +1,7 @@
 -- Statements: the text that a statement shows and the state that it leaves, or the fault that ends the run.
 -- docs/LANGUAGE.md, grammar.
 use Rattle.std.specs.Prelude.{ℕ, Bool, false, if◌then◌else◌, ◌==◌, length, slice_get, List, [], ◌∷◌, ◌++◌, Option, None, Some, Result, Ok, Err, codes}
-use Rattle.tall_grammar.specs.Trees.{Tree, tree, Args, Body, assigned, gathered, property, bare, Entry}
+use Rattle.tall_grammar.specs.Trees.{Tree, tree, Args, Body, assigned, gathered, property, bare, SeenStatement}
 use Rattle.tall_grammar.specs.Trees as trees
 use Rattle.tall_semantics.specs.Talls.{Tall}
 use Rattle.tall_script.specs.Arguments.{value_given}
@@ -88,5 +88,5 @@ body setting line shown (property name p e) s =
     (λ v t. put_store line shown name (and_then (store_of t.stores (named t.names name) name) (changed_store p v)) t)
 body setting line shown (bare e) s = then_do (script_value setting e s) (alone shown e)
 
-abbrev pub statement : Setting → Entry → State Tall → Done
+abbrev pub statement : Setting → SeenStatement → State Tall → Done
 statement setting entry s = body setting entry.line entry.shown entry.form s

@@ -2,7 +2,7 @@
 use Rattle.std.specs.Prelude.{List, ℕ, Bool, true, false, not, ◌&&◌, ◌∷◌, [], codes, Option, Some, None, if◌then◌else◌}
 use Rattle.std.specs.Str.{bytes_eq}
 use Rattle.tall_grammar.specs.Trees.{Tree, tree, text, name, list, member, call, Trees, no_trees, and_tree, Args, no_args, value_arg, colon_arg}
-use Rattle.tall_grammar.specs.Trees.{Body, assigned, Entry}
+use Rattle.tall_grammar.specs.Trees.{Body, assigned, SeenStatement}
 
 -- the file that the script reads, and its one variable
 abbrev pub data_name : List ℕ
@@ -81,27 +81,27 @@ abbrev pub assigns : List ℕ → (Tree → Bool) → Body → Bool
 assigns s test (assigned t e) = bytes_eq t s && test e
 assigns s test b = false
 
-abbrev pub is_silent : Entry → Bool
+abbrev pub is_silent : SeenStatement → Bool
 is_silent b = not b.shown
 
 -- ds = tabularTextDatastore('a.csv', 'TextscanFormats', {'%d16'});
-abbrev pub opens : Entry → Bool
+abbrev pub opens : SeenStatement → Bool
 opens b =
     is_silent b
     && assigns (codes "ds") (is_call (codes "tabularTextDatastore") (are_three (is_text data_name) (is_text (codes "TextscanFormats")) (is_list_of (codes "%d16")))) b.form
 
 -- T = tall(ds);
-abbrev pub makes_tall : Entry → Bool
+abbrev pub makes_tall : SeenStatement → Bool
 makes_tall b = is_silent b && assigns (codes "T") (is_call (codes "tall") (is_one (is_name (codes "ds")))) b.form
 
 -- s = sum(T.x, 'native');
-abbrev pub sums : Entry → Bool
+abbrev pub sums : SeenStatement → Bool
 sums b =
     is_silent b
     && assigns (codes "s") (is_call (codes "sum") (are_two (is_member (codes "T") variable_name) (is_text (codes "native")))) b.form
 
 -- s = gather(s)
-abbrev pub gathers : Entry → Bool
+abbrev pub gathers : SeenStatement → Bool
 gathers b = b.shown && assigns (codes "s") (is_call (codes "gather") (is_one (is_name (codes "s")))) b.form
 
 -- ---- the whole script
@@ -119,11 +119,11 @@ pub data Task : Type 0 where
   native_sum : Lines → Task
   not_built : Task
 
-abbrev pub four_task : Entry → Entry → Entry → Entry → Task
+abbrev pub four_task : SeenStatement → SeenStatement → SeenStatement → SeenStatement → Task
 four_task a b c d =
     if opens a && (makes_tall b && (sums c && gathers d)) then native_sum (record { opening = a.line; variable = c.line }) else not_built
 
-abbrev pub task_of : List Entry → Task
+abbrev pub task_of : List SeenStatement → Task
 task_of [] = nothing
 task_of (a ∷ b ∷ c ∷ d ∷ []) = four_task a b c d
 task_of (a ∷ []) = not_built

@@ -12,7 +12,7 @@ use Rattle.tall_lex.specs.Tokens.{tokens_from, tokens_of_bytes}
 use Rattle.tall_grammar.specs.ExprReader.{args_from, post_from, signs_from, signed, chain_from, level, expr_within}
 use Rattle.tall_grammar.specs.Readers.{listed_from}
 use Rattle.tall_grammar.specs.ScriptReader.{statements_from, arms_from, steps_from, steps_within, functions_from}
-use Rattle.tall_grammar.specs.Trees.{tree, text, name, list, member, call, no_trees, and_tree, no_args, value_arg, assigned, Program}
+use Rattle.tall_grammar.specs.Trees.{tree, text, name, list, member, call, no_trees, and_tree, no_args, value_arg, assigned, SeenScript}
 use Rattle.tall_grammar.specs.Refusals as parse
 use Rattle.tall_grammar.specs.Verdicts.{verdict}
 use Rattle.tall_session.specs.FirstScript.{Task, nothing, native_sum, not_built}
@@ -30,7 +30,7 @@ abbrev pub first_script : List ℕ
 first_script = codes "ds = tabularTextDatastore('a.csv', 'TextscanFormats', {'%d16'});\nT = tall(ds);\ns = sum(T.x, 'native');\ns = gather(s)\n"
 
 -- what they are made of
-abbrev pub first_program : Program
+abbrev pub first_program : SeenScript
 first_program = record {
   statements =
       record {
