@@ -19,23 +19,23 @@ use Rattle.tall_semantics.specs.Outcomes.{Outcome, rows, scalar, fault, fault_of
 use Rattle.tall_semantics.specs.Talls.{Tall, outcomes, own_outcome}
 use Rattle.tall_semantics.specs.Numbered.{never_fails}
 
-none_of_two : (c d : Option Fault) → earlier c d ≡ None → (c ≡ None) × (d ≡ None)
+pub none_of_two : (c d : Option Fault) → earlier c d ≡ None → (c ≡ None) × (d ≡ None)
 none_of_two None d h = (refl, h)
 none_of_two (Some f) None h = absurd (cc)
 none_of_two (Some f) (Some g) h = absurd (cc)
 
 -- ---- numbers
 
-abbrev HasNumber : At → Option Fault → Type 0
+abbrev pub HasNumber : At → Option Fault → Type 0
 HasNumber at c = (x : Fault) → c ≡ Some x → x.number ≡ at.number
 
 number_of : (at : At) (row : Option ℕ) (kind : FaultKind) → HasNumber at (Some (fault_at at row kind))
 number_of at row kind x h = sym (ap (λ o. elim o [ Some y ↦ y.number | None ↦ at.number ]) h)
 
-none_has : (at : At) → HasNumber at None
+pub none_has : (at : At) → HasNumber at None
 none_has at x h = absurd (cc)
 
-rows_number : (at : At) (r : Result (List (ℕ × Seen)) (ℕ × CellFault)) → HasNumber at (fault_of (row_by_row at r))
+pub rows_number : (at : At) (r : Result (List (ℕ × Seen)) (ℕ × CellFault)) → HasNumber at (fault_of (row_by_row at r))
 rows_number at (Ok rs) = none_has at
 rows_number at (Err e) = number_of at _ _
 
@@ -141,7 +141,7 @@ same_group at m p q (g ∷ v ∷ z ∷ xs) = refl
 
 -- ---- without a fault it doesn't matter which expression it is
 
-same_rows : (at other : At) (r : Result (List (ℕ × Seen)) (ℕ × CellFault)) → fault_of (row_by_row at r) ≡ None → row_by_row at r ≡ row_by_row other r
+pub same_rows : (at other : At) (r : Result (List (ℕ × Seen)) (ℕ × CellFault)) → fault_of (row_by_row at r) ≡ None → row_by_row at r ≡ row_by_row other r
 same_rows at other (Ok rs) h = refl
 same_rows at other (Err e) h = absurd (cc)
 

@@ -27,7 +27,7 @@ Rows = List (ℕ × Seen)
 abbrev pub ok_rows : Rows → Result Rows (ℕ × CellFault)
 ok_rows rs = Ok rs
 
-ok_inside : (rs ss : Rows) → ok_rows rs ≡ ok_rows ss → rs ≡ ss
+pub ok_inside : (rs ss : Rows) → ok_rows rs ≡ ok_rows ss → rs ≡ ss
 ok_inside rs ss h = ap (λ r. elim r [ Ok z ↦ z | Err e ↦ rs ]) h
 
 front_numbers : (r : ℕ × Seen) (rest : Result Rows (ℕ × CellFault)) (ns : List ℕ) (outs : Rows) → ((os : Rows) → rest ≡ ok_rows os → numbers os ≡ ns) → in_front r rest ≡ ok_rows outs → numbers outs ≡ r.0 ∷ ns
@@ -50,17 +50,17 @@ each_pair_numbers g [] ss outs n e = ap numbers (sym (ok_inside [] outs e))
 each_pair_numbers g (r ∷ rs) [] outs n e = absurd (cc)
 each_pair_numbers g (r ∷ rs) (s ∷ ss) outs n e = at_numbers r.0 (g r.1 s.1) (each_pair g rs ss) (numbers rs) outs (λ os h. each_pair_numbers g rs ss os (tail_is r.0 s.0 (numbers rs) (numbers ss) n) h) e
 
-integer_numbers : (k : IntKind) (sum : ℤ) (rs : Rows) → numbers (integer_sums k sum rs) ≡ numbers rs
+pub integer_numbers : (k : IntKind) (sum : ℤ) (rs : Rows) → numbers (integer_sums k sum rs) ≡ numbers rs
 integer_numbers k sum [] = refl
 integer_numbers k sum (r ∷ rs) = ap (λ xs. r.0 ∷ xs) (integer_numbers k (added k sum (amount r.1)) rs)
 
-double_numbers : (sum : Option ℤ) (rs outs : Rows) → double_sums sum rs ≡ ok_rows outs → numbers outs ≡ numbers rs
+pub double_numbers : (sum : Option ℤ) (rs outs : Rows) → double_sums sum rs ≡ ok_rows outs → numbers outs ≡ numbers rs
 double_numbers sum [] outs e = ap numbers (sym (ok_inside [] outs e))
 double_numbers sum (r ∷ rs) outs e =
     let next : Option ℤ = elim (whole_add sum (amount r.1)) [ Ok d ↦ d | Err x ↦ None ] in
     at_numbers r.0 (double_cell (whole_add sum (amount r.1))) (double_sums next rs) (numbers rs) outs (λ os h. double_numbers next rs os h) e
 
-best_numbers : (f : Seen → Seen → Seen) (best : Seen) (rs : Rows) → numbers (bests f best rs) ≡ numbers rs
+pub best_numbers : (f : Seen → Seen → Seen) (best : Seen) (rs : Rows) → numbers (bests f best rs) ≡ numbers rs
 best_numbers f best [] = refl
 best_numbers f best (r ∷ rs) = ap (λ xs. r.0 ∷ xs) (best_numbers f (better f best r.1) rs)
 

@@ -74,15 +74,15 @@ told columns op (x ∷ y ∷ z ∷ ws) t a n h = absurd (n x y z ws refl)
 
 -- ---- numbers of outcomes
 
-num_rows : (at : At) (r : Result Rows (ℕ × CellFault)) (ns : List ℕ) → ((outs : Rows) → r ≡ ok_rows outs → numbers outs ≡ ns) → fault_of (row_by_row at r) ≡ None → numbers_in (row_by_row at r) ≡ ns
+pub num_rows : (at : At) (r : Result Rows (ℕ × CellFault)) (ns : List ℕ) → ((outs : Rows) → r ≡ ok_rows outs → numbers outs ≡ ns) → fault_of (row_by_row at r) ≡ None → numbers_in (row_by_row at r) ≡ ns
 num_rows at (Ok rs) ns h n = h rs refl
 num_rows at (Err e) ns h n = absurd (cc)
 
-num_alone : (at : At) (r : Result Seen FaultKind) → fault_of (alone at r) ≡ None → numbers_in (alone at r) ≡ 1 ∷ []
+pub num_alone : (at : At) (r : Result Seen FaultKind) → fault_of (alone at r) ≡ None → numbers_in (alone at r) ≡ 1 ∷ []
 num_alone at (Ok c) n = refl
 num_alone at (Err k) n = absurd (cc)
 
-num_one : (at : At) (op : Unary) (x : Outcome) → fault_of x ≡ None → fault_of (elementwise_one at op x) ≡ None → numbers_in (elementwise_one at op x) ≡ numbers_in x
+pub num_one : (at : At) (op : Unary) (x : Outcome) → fault_of x ≡ None → fault_of (elementwise_one at op x) ≡ None → numbers_in (elementwise_one at op x) ≡ numbers_in x
 num_one at op (rows rs) e n = num_rows at (unary_rows op rs) (numbers rs) (λ outs h. each_row_numbers (unary_cell op) rs outs h) n
 num_one at op (scalar c) e n = num_alone at (or_fault (unary_cell op c)) n
 num_one at op (fault f) e n = absurd (cc)
@@ -91,7 +91,7 @@ single_is : (s : Space) → is_single s ≡ true → s ≡ single
 single_is single h = refl
 single_is s h = absurd (cc)
 
-common_is : (s t u : Space) → common s t ≡ space_ok u → (is_single s ≡ false → s ≡ u) × (is_single t ≡ false → t ≡ u) × (is_single s ≡ true → is_single t ≡ true → single ≡ u)
+pub common_is : (s t u : Space) → common s t ≡ space_ok u → (is_single s ≡ false → s ≡ u) × (is_single t ≡ false → t ≡ u) × (is_single s ≡ true → is_single t ≡ true → single ≡ u)
 common_is single t u h = (λ e. absurd (cc), λ e. inside t u h, λ e g. sym (single_is t g) ∙ inside t u h)
 common_is s single u h = (λ e. inside s u h, λ e. absurd (cc), λ e g. absurd (cc))
 common_is s t u h =

@@ -39,7 +39,7 @@ second_in (leaf op) = leaf op
 second_in (one op x) = x
 second_in (two op x y) = y
 
-not_column : (op : Op) (xs : List Shape) (s v : ℕ) (c : Class) → tree_over op xs ≡ column s v c → ⊥
+pub not_column : (op : Op) (xs : List Shape) (s v : ℕ) (c : Class) → tree_over op xs ≡ column s v c → ⊥
 not_column op [] s v c h = cc
 not_column op (x ∷ []) s v c h = cc
 not_column op (x ∷ y ∷ xs) s v c h = cc
