@@ -4,23 +4,13 @@ use Rattle.std.specs.Ordering.{nat_cmp, is_lt}
 use Rattle.std.specs.Cmp.Lexicographic.{slice_cmp}
 use Rattle.tall_value.specs.declared.faults.Fault as value
 use Rattle.tall_value.specs.declared.faults.FaultKind.{FaultKind}
+use Rattle.tall_value.specs.declared.faults.ReadingKind.{ReadingKind}
 use Rattle.tall_value.specs.FaultOrder.{row_place}
 
 -- an expression: its number in the script, and the line of its statement
 pub record At : Type 0 where
   pub number : ℕ
   pub line : ℕ
-
--- what is wrong in a datastore's files
-pub data ReadingKind : Type 0 where
-  no_file : ReadingKind
-  header_differs : ReadingKind
-  too_many_rows : ReadingKind
-  too_many_fields : ReadingKind
-  bad_field : ReadingKind
-  bad_text : ReadingKind
-  not_whole : ReadingKind
-  inexact : ReadingKind
 
 -- what went wrong: in an operation, or in a file of a datastore, by its place in the list of files from 0
 pub data Cause : Type 0 where

@@ -8,8 +8,9 @@ use Rattle.tall_value.specs.declared.functions.Reduction.TheVariants.{Sum, Min, 
 use Rattle.tall_value.specs.declared.functions.Scan.TheVariants.{CumSum}
 use Rattle.tall_value.specs.declared.operators.Binary.TheVariants.{Add, Sub, Div, Gt}
 use Rattle.tall_value.specs.Cells.{whole, logical}
+use Rattle.tall_value.specs.declared.faults.ReadingKind.TheVariants.{BadField}
 use Rattle.tall_semantics.specs.Operations.{distinct, scan, constant, binary, filter, reduce, head}
-use Rattle.tall_semantics.specs.Faults.{Fault, fault_at, least_fault, bad_field, reading}
+use Rattle.tall_semantics.specs.Faults.{Fault, fault_at, least_fault, reading}
 use Rattle.tall_semantics.specs.Outcomes.{rows, scalar, fault, fault_of}
 use Rattle.tall_semantics.specs.Shapes.{incompatible, level}
 use Rattle.tall_semantics.specs.Talls.{Tall, tall, stored_tall, shapes, outcomes}
@@ -175,7 +176,7 @@ greatest_of_none = refl
 
 -- ---- data of a failing datastore, whose call is expression 3 on line 1: each column has its first reading fault
 abbrev broken : Fault
-broken = record { number = 3; row = Some 7; column = 2; store = 0; cause = reading bad_field 0; line = 1 }
+broken = record { number = 3; row = Some 7; column = 2; store = 0; cause = reading BadField 0; line = 1 }
 
 abbrev unread : Tall
 unread = stored_tall 0 0 class.Double (fault broken)

@@ -1,4 +1,4 @@
-//! Why an operator or a function refuses.
+//! Why an operator or a function refuses, and what is wrong in files of data.
 ghost use Rattle.std.specs.Prelude.{◌≡◌};
 ghost use Rattle.tall_value.specs.Reductions.{data_fault};
 
@@ -59,4 +59,25 @@ pub struct Fault {
     pub row: Option<u64>,
     /// What went wrong.
     pub kind: FaultKind,
+}
+
+/// What is wrong with a file, a record or a field of data, in the order in which faults at one place come.
+#[derive(Clone, Copy, Debug, PartialEq, Eq)]
+pub enum ReadingKind {
+    /// A file isn't there.
+    NoFile,
+    /// The first record of a file isn't that of the first file.
+    HeaderDiffers,
+    /// The row is the one numbered 2^40.
+    TooManyRows,
+    /// The record has more fields than there are variables.
+    TooManyFields,
+    /// The field is neither a number nor missing.
+    BadField,
+    /// The field of a text isn't UTF-8.
+    BadText,
+    /// The number of a double isn't whole.
+    NotWhole,
+    /// The number of a double is above 2^53 in magnitude.
+    Inexact,
 }
