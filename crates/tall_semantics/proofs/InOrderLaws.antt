@@ -70,17 +70,17 @@ talls_mean columns vs sound i v e =
 
 -- ---- one vertex more
 
-get_left : {A : Type 0} (xs ys : List A) (i : ℕ) (x : A) → slice_get xs i ≡ Some x → slice_get (xs ++ ys) i ≡ Some x
+pub get_left : {A : Type 0} (xs ys : List A) (i : ℕ) (x : A) → slice_get xs i ≡ Some x → slice_get (xs ++ ys) i ≡ Some x
 get_left [] ys i x e = absurd (cc)
 get_left (z ∷ xs) ys zero x e = e
 get_left (z ∷ xs) ys (suc i) x e = get_left xs ys i x e
 
-get_last : {A : Type 0} (xs : List A) (x : A) → slice_get (xs ++ x ∷ []) (length xs) ≡ Some x
+pub get_last : {A : Type 0} (xs : List A) (x : A) → slice_get (xs ++ x ∷ []) (length xs) ≡ Some x
 get_last [] x = refl
 get_last (z ∷ xs) x = get_last xs x
 
 -- what stands in the longer list stood there, or is the new one
-old_or_new : {A : Type 0} (xs : List A) (x y : A) (i : ℕ) → slice_get (xs ++ x ∷ []) i ≡ Some y → (slice_get xs i ≡ Some y) ⊎ ((i ≡ length xs) × (x ≡ y))
+pub old_or_new : {A : Type 0} (xs : List A) (x y : A) (i : ℕ) → slice_get (xs ++ x ∷ []) i ≡ Some y → (slice_get xs i ≡ Some y) ⊎ ((i ≡ length xs) × (x ≡ y))
 old_or_new [] x y zero e = inr (refl, inside x y e)
 old_or_new [] x y (suc i) e = absurd (cc)
 old_or_new (z ∷ xs) x y zero e = inl e
@@ -106,7 +106,7 @@ talls_push columns ts [] v = refl
 talls_push columns ts (w ∷ vs) v = talls_push columns (ts ++ next_tall columns ts w ∷ []) vs v
 
 -- earlier values are the same in the longer list
-kept_values : (columns : Columns) (vs : List Vertex) (v : Vertex) (a : ℕ) → a < length vs → tall_in (talls columns (vs ++ v ∷ [])) a ≡ tall_in (talls columns vs) a
+pub kept_values : (columns : Columns) (vs : List Vertex) (v : Vertex) (a : ℕ) → a < length vs → tall_in (talls columns (vs ++ v ∷ [])) a ≡ tall_in (talls columns vs) a
 kept_values columns vs v a l =
     ap (λ ts. tall_in ts a) (talls_push columns [] vs v) ∙ get_or_append_left (talls columns vs) (next_tall columns (talls columns vs) v ∷ []) blank a (omega (arith, l, length_talls columns [] vs))
 

@@ -11,9 +11,11 @@ pub mod ShapeLaws
 pub mod FaultLaws
 pub mod NumberLaws
 pub mod CandidateLaws
-pub mod SampleLaws
 pub mod TreeLaws
 pub mod MeaningLaws
 pub mod FitLaws
 pub mod RowNumberLaws
+pub mod ShapesInOrderLaws
+pub mod AdditionLaws
+pub mod SampleLaws
 pub mod SpaceLaws

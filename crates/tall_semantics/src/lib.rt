@@ -3,8 +3,10 @@
 //! No evaluator stands here: the definitions in specs/ are what the crates above are proved against.
 #![tactic(auto)]
 
+mod graphs;
 mod laws;
 
+pub use graphs::{an_added_vertex_keeps_the_numbers, shapes_follow_from_the_list};
 pub use laws::{
     a_fault_is_the_least_own_fault, a_graph_keeps_what_levels_need, a_level_keeps_the_candidate,
     a_vertex_more_keeps_the_values, equal_trees_have_equal_values,
