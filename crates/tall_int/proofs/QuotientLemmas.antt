@@ -1,12 +1,12 @@
 -- Remainders by the floor, from the remainder toward zero; saturated products; numbers of a class.
-use Rattle.std.proofs.Common.{◌≡◌, ◌≢◌, ℕ, zero, suc, ◌^◌, ◌≤◌, ℤ, pos, negsuc, ◌+ℤ◌, ◌-ℤ◌, ◌*ℤ◌, ◌≤ℤ◌, true, false, refl, ap, sym, subst, arith, rules}
+use Rattle.std.proofs.Common.{◌≡◌, ◌≢◌, ℕ, zero, suc, ◌^◌, ◌≤◌, ℤ, pos, negsuc, ◌+ℤ◌, ◌-ℤ◌, ◌*ℤ◌, ◌≤ℤ◌, neg_ℤ, true, false, refl, ap, sym, subst, arith, rules}
 use Rattle.std.proofs.lemmas.Int.{ints, clamps}
 use Rattle.std.specs.Prelude.{int_rem, unsigned_abs}
-use Rattle.std.specs.Int.{is_negative, saturate_signed}
+use Rattle.std.specs.Int.{int_max, is_negative, saturate_signed}
 use Rattle.std.specs.Int.Signed.{mag}
 use mir.Val.{SFits, of_z}
 use mir.Syntax.{w64, w128}
-use Rattle.tall_int.specs.Numbers.{nearest}
+use Rattle.tall_int.specs.Numbers.{nearest, IsTwosRange, signed, unsigned}
 use Rattle.tall_int.specs.Quotients.{differ, quotient, IsFloor}
 use Rattle.tall_int.specs.Arithmetic.{divided, remainder}
 use Rattle.tall_int.specs.declared.quotients.Rounding.{Rounding}
@@ -58,6 +58,21 @@ pub saturated : (low high z : ℤ) → (negsuc 18446744073709551615 ≤ℤ low) 
     → nearest low high (saturate_signed w128 z) ≡ nearest low high z
 saturated low high (pos n) p q r = omega (arith, ints, clamps)
 saturated low high (negsuc n) p q r = omega (arith, ints, clamps)
+
+-- the same of a class within 64 bits with the sign
+pub saturated_word : (low high z : ℤ) → (negsuc 9223372036854775807 ≤ℤ low) → (high ≤ℤ pos 9223372036854775807) → low ≤ℤ high
+    → nearest low high (saturate_signed w64 z) ≡ nearest low high z
+saturated_word low high (pos n) p q r = omega (arith, ints, clamps)
+saturated_word low high (negsuc n) p q r = omega (arith, ints, clamps)
+
+-- where the greatest number of a class is within 64 bits with the sign, so is the least
+pub word_low : (low high : ℤ) → IsTwosRange low high → (high ≤ℤ pos 9223372036854775807) → negsuc 9223372036854775807 ≤ℤ low
+word_low _ _ (signed k) h = omega (arith, ints)
+word_low _ _ (unsigned k) h = omega (arith, ints)
+
+-- the least number of a class may go to minus the greatest before its sign is turned
+pub turned_in : (low high n : ℤ) → low ≤ℤ high → nearest low high (pos 0 -ℤ int_max n (pos 0 -ℤ high)) ≡ nearest low high (neg_ℤ n)
+turned_in low high n h = omega (arith, ints, clamps)
 
 pub divided_nonzero : (how : Rounding) (low high p q : ℤ) → q ≢ pos 0 → divided how low high p q ≡ nearest low high (quotient how p q)
 divided_nonzero how low high p (pos zero) h = absurd (h refl)
@@ -117,3 +132,8 @@ small_fits (negsuc n) h = record { sfits = omega arith }
 pub small_fits_wide : (z : ℤ) → unsigned_abs z ≤ 2 ^ 53 → SFits w128 z
 small_fits_wide (pos n) h = record { sfits = omega arith }
 small_fits_wide (negsuc n) h = record { sfits = omega arith }
+
+-- a number of 64 bits fits 128
+pub word_fits : (z : ℤ) → SFits w64 z → SFits w128 z
+word_fits (pos n) h = record { sfits = omega (arith, h.sfits) }
+word_fits (negsuc n) h = record { sfits = omega (arith, h.sfits) }

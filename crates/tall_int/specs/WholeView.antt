@@ -1,26 +1,23 @@
--- What a clause sees of a double, and back.
-use Rattle.std.specs.Prelude.{ℤ, ◌≡◌, ◌^◌, ◌≤◌, unsigned_abs, refl, Option, None, Some}
-use Rattle.std.proofs.Common.{ap}
-use Rattle.tall_int.specs.declared.wholes.Inner.{Inner}
-use Rattle.tall_int.specs.declared.wholes.Inner.TheVariants.{Number, Nan}
+-- What a clause sees of a double, and back: a number of magnitude at most 2^53 is itself, and 2^61 is NaN.
+use Rattle.std.specs.Prelude.{ℤ, pos, ◌≡◌, ◌^◌, ◌≤◌, ◌⊎◌, nat_le, unsigned_abs, if◌then◌else◌, Option, None, Some}
+use Rattle.std.proofs.Common.{ap, sym, ◌∙◌, inl, inr}
+use Rattle.std.proofs.lemmas.Bool.{cond-true, le-leb}
 use Rattle.tall_int.specs.declared.wholes.Whole.TheInside.{Inside}
 
-abbrev pub number_of : Inner → Option ℤ
-number_of (Number n) = Some n
-number_of Nan = None
+abbrev pub number_of : ℤ → Option ℤ
+number_of n = if nat_le (unsigned_abs n) (2 ^ 53) then Some n else None
 
-abbrev pub inner_of : Option ℤ → Inner
-inner_of (Some n) = Number n
-inner_of None = Nan
+abbrev pub kept : Option ℤ → ℤ
+kept (Some n) = n
+kept None = pos 2305843009213693952
 
--- the magnitude of a number is at most 2^53
-abbrev pub IsSmall : Option ℤ → Type 0
-IsSmall (Some n) = unsigned_abs n ≤ 2 ^ 53
-IsSmall None = Unit {0}
+-- a number of magnitude at most 2^53, or what stands for NaN
+abbrev pub IsKept : ℤ → Type 0
+IsKept n = (unsigned_abs n ≤ 2 ^ 53) ⊎ (n ≡ pos 2305843009213693952)
 
-inner_trip : (a : Inner) → inner_of (number_of a) ≡ a
-inner_trip (Number n) = refl
-inner_trip Nan = refl
+kept_trip : (n : ℤ) → IsKept n → kept (number_of n) ≡ n
+kept_trip n (inl h) = ap kept (cond-true (nat_le (unsigned_abs n) (2 ^ 53)) _ _ (le-leb _ _ h))
+kept_trip n (inr e) = ap (λ (z : ℤ). kept (number_of z)) e ∙ sym e
 
-pub round_trip : (a : Inside) → record { inner = inner_of (number_of a.inner) } ≡ a
-round_trip a = ap (λ (i : Inner). record { inner = i }) (inner_trip a.inner)
+pub round_trip : (a : Inside) → IsKept a.number → record { number = kept (number_of a.number) } ≡ a
+round_trip a h = ap (λ (n : ℤ). record { number = n }) (kept_trip a.number h)

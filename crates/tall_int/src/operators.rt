@@ -1,5 +1,5 @@
 //! The arithmetic of integer classes: exact, rounded, then clamped to the class.
-ghost use Rattle.std.specs.Prelude.{◌≡◌, ◌^◌, ◌≤◌, ◌+ℤ◌, ◌-ℤ◌, ◌*ℤ◌, neg_ℤ, pos, unsigned_abs};
+ghost use Rattle.std.specs.Prelude.{◌≡◌, ◌^◌, ◌≤◌, ◌+ℤ◌, ◌-ℤ◌, ◌*ℤ◌, ◌≤ℤ◌, neg_ℤ, pos, unsigned_abs};
 ghost use Rattle.tall_int.specs.Numbers.{nearest};
 ghost use Rattle.tall_int.specs.Arithmetic.{divided, operation, over_zero, remainder};
 ghost use Rattle.tall_int.specs.declared.quotients.Rounding.TheVariants.{Round};
@@ -50,17 +50,40 @@ fn divide<I: IntClass>(how: Rounding, p: i128, q: i128) -> I
     }
 }
 
+/// p * q in a class whose numbers have 64 bits with their sign.
+fn product_of_words<I: IntClass>(p: i64, q: i64) -> I
+    requires { I.MAX ≤ℤ pos 9223372036854775807 }
+    ensures { I.number result ≡ nearest I.MIN I.MAX (p *ℤ q) }
+{
+    clamp(p.saturating_mul(q) as i128)
+}
+
 /// p * q in the class. The product of two numbers of 64 bits may not fit 128, and is far above the class there.
-fn product<I: IntClass>(p: i128, q: i128) -> I
+fn wide_product<I: IntClass>(p: i128, q: i128) -> I
     ensures { I.number result ≡ nearest I.MIN I.MAX (p *ℤ q) }
 {
     clamp(p.saturating_mul(q))
 }
 
+/// p * q in the class, in 64 bits where the class and the numbers allow it.
+fn product<I: IntClass>(p: i128, q: i128) -> I
+    ensures { I.number result ≡ nearest I.MIN I.MAX (p *ℤ q) }
+{
+    if I::MAX <= i64::MAX as i128 {
+        match (i64::try_from(p), i64::try_from(q)) {
+            (Ok(p), Ok(q)) => product_of_words(p, q),
+            _ => wide_product(p, q),
+        }
+    } else {
+        wide_product(p, q)
+    }
+}
+
 /// The result of an operator on two whole numbers, which need not be of the class: exact, then rounded, then clamped.
 ///
-/// Numbers are at most 2^64 in magnitude. Over zero a positive dividend gives the class's greatest value, a negative
-/// one its least, and zero gives 0; `mod(a, 0)` is `a` (MathWorks, Integers; idivide; mod).
+/// Numbers are at most 2^64 in magnitude (MathWorks, Integers; idivide). Over zero, by the language's own rule, a
+/// positive dividend gives the class's greatest value, a negative one its least, and zero gives 0; `mod(a, 0)` is `a`
+/// (MathWorks, mod).
 pub fn mixed<I: IntClass>(op: Arith, a: i128, b: i128) -> I
     requires first { unsigned_abs a ≤ 2 ^ 64 }
     requires second { unsigned_abs b ≤ 2 ^ 64 }
@@ -122,7 +145,7 @@ pub fn modulo<I: IntClass>(a: I, b: I) -> I
 pub fn neg<I: IntClass>(a: I) -> I
     ensures { I.number result ≡ nearest I.MIN I.MAX (neg_ℤ (I.number a)) }
 {
-    clamp(-a.wide())
+    clamp(-a.wide().max(-I::MAX))
 }
 
 /// The magnitude of a value, saturated.

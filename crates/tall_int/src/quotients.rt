@@ -1,5 +1,6 @@
 //! Rounded quotients and remainders of whole numbers.
-ghost use Rattle.std.specs.Prelude.{◌≡◌, ◌≢◌, ◌^◌, ◌≤◌, ◌<◌, pos, unsigned_abs};
+ghost use Rattle.std.specs.Prelude.{◌≡◌, ◌≢◌, ◌^◌, ◌≤◌, ◌<◌, ◌/◌, pos, int_rem, unsigned_abs};
+ghost use Rattle.std.specs.Int.{div_ceil};
 ghost use Rattle.tall_int.specs.Quotients.{differ, quotient, rounded_size};
 ghost use Rattle.tall_int.specs.Arithmetic.{remainder};
 
@@ -22,6 +23,30 @@ fn only_one(a: bool, b: bool) -> bool
     if a { !b } else { b }
 }
 
+/// p / q cut, by one division of 64 bits where the numbers allow it.
+fn cut(p: u128, q: u128) -> u128
+    requires { 0 < q }
+    ensures { result ≡ p / q }
+{
+    match (u64::try_from(p), u64::try_from(q)) {
+        (Ok(p), Ok(q)) => (p / q) as u128,
+        _ => p / q,
+    }
+}
+
+/// p / q away from 0.
+fn cut_up(p: u128, q: u128) -> u128
+    requires dividend { p ≤ 2 ^ 64 }
+    requires divisor { q ≤ 2 ^ 64 }
+    requires nonzero { 0 < q }
+    ensures { result ≡ div_ceil p q }
+{
+    match (u64::try_from(p), u64::try_from(q)) {
+        (Ok(p), Ok(q)) => p.div_ceil(q) as u128,
+        _ => p.div_ceil(q),
+    }
+}
+
 /// The magnitude of a quotient, from those of its operands.
 fn magnitude(how: Rounding, negative: bool, p: u128, q: u128) -> u128
     requires dividend { p ≤ 2 ^ 64 }
@@ -31,10 +56,10 @@ fn magnitude(how: Rounding, negative: bool, p: u128, q: u128) -> u128
     ensures small { result ≤ 2 ^ 64 }
 {
     match how {
-        Rounding::Fix => p / q,
-        Rounding::Floor => if negative { p.div_ceil(q) } else { p / q },
-        Rounding::Ceil => if negative { p / q } else { p.div_ceil(q) },
-        Rounding::Round => (2 * p + q) / (2 * q),
+        Rounding::Fix => cut(p, q),
+        Rounding::Floor => if negative { cut_up(p, q) } else { cut(p, q) },
+        Rounding::Ceil => if negative { cut(p, q) } else { cut_up(p, q) },
+        Rounding::Round => cut(2 * p + q, 2 * q),
     }
 }
 
@@ -50,6 +75,18 @@ pub(crate) fn rounded(how: Rounding, p: i128, q: i128) -> i128
     if negative { -size } else { size }
 }
 
+/// What is left of p by p / q cut toward 0, by one division of 64 bits where the numbers allow it.
+fn cut_rest(p: i128, q: i128) -> i128
+    requires dividend { unsigned_abs p ≤ 2 ^ 64 }
+    requires nonzero { q ≢ pos 0 }
+    ensures { result ≡ int_rem p q }
+{
+    match (i64::try_from(p), i64::try_from(q)) {
+        (Ok(p), Ok(q)) => p.wrapping_rem(q) as i128,
+        _ => p % q,
+    }
+}
+
 /// What is left of p by the floor of p / q; p where q is 0.
 pub(crate) fn floor_remainder(p: i128, q: i128) -> i128
     requires dividend { unsigned_abs p ≤ 2 ^ 64 }
@@ -59,7 +96,7 @@ pub(crate) fn floor_remainder(p: i128, q: i128) -> i128
     if q == 0 {
         return p;
     }
-    let rest = p % q;
+    let rest = cut_rest(p, q);
     if rest != 0 && only_one(rest < 0, q < 0) {
         rest + q
     } else {

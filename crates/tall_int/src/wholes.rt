@@ -1,5 +1,5 @@
 //! Doubles of the language: NaN, or a whole number.
-ghost use Rattle.std.specs.Prelude.{◌≡◌, ◌^◌, ◌≤◌, ◌↔◌, IsSome, IfSome, unsigned_abs};
+ghost use Rattle.std.specs.Prelude.{◌≡◌, ◌^◌, ◌≤◌, ◌*ℤ◌, ◌↔◌, IsSome, IfSome, unsigned_abs};
 ghost use Rattle.tall_int.specs.Arithmetic.{remainder};
 ghost use Rattle.tall_int.specs.Doubles.{exact, shared, whole_abs, whole_add, whole_div, whole_modulo, whole_mul, whole_neg, whole_sub};
 
@@ -10,17 +10,13 @@ use std::marker::Model;
 /// The greatest magnitude of a whole double, 2^53: each whole number up to it is a double.
 const LIMIT: u64 = 9_007_199_254_740_992;
 
-// `Number` first, so that the derived order puts NaN last.
-#[derive(Clone, Copy, Debug, PartialEq, Eq, PartialOrd, Ord)]
-enum Inner {
-    Number(i64),
-    Nan,
-}
+/// What stands for NaN, 2^61: above each number, so that the derived order puts NaN last.
+const NAN: i64 = 1 << 61;
 
 /// A double of the language: NaN, or a whole number of magnitude at most 2^53. NaN equals itself and comes last.
 #[derive(Clone, Copy, Debug, PartialEq, Eq, PartialOrd, Ord)]
 pub struct Whole {
-    inner: Inner,
+    number: i64,
 }
 
 impl Model for Whole {
@@ -28,28 +24,15 @@ impl Model for Whole {
 
     ghost Value = { Option ℤ };
 
-    ghost use Rattle.tall_int.specs.WholeView.{number_of, inner_of, IsSmall, round_trip};
+    ghost use Rattle.tall_int.specs.WholeView.{number_of, kept, IsKept, round_trip};
 
-    ghost view = { λ w. number_of w.inner };
+    ghost view = { λ w. number_of w.number };
 
-    ghost invariant = { λ w. IsSmall (number_of w.inner) };
+    ghost invariant = { λ w. IsKept w.number };
 
-    ghost inverse = { λ d. record { inner = inner_of d } };
+    ghost inverse = { λ d. record { number = kept d } };
 
-    ghost inverse_ok = { λ a h. round_trip a };
-}
-
-/// A number, if its magnitude is at most 2^53.
-fn checked(n: i128) -> Result<Whole, WholeFault>
-    ensures { result ≡ exact n }
-{
-    if n.unsigned_abs() <= LIMIT as u128 {
-        Ok(Whole {
-            inner: Inner::Number(n as i64),
-        })
-    } else {
-        Err(WholeFault::Inexact)
-    }
+    ghost inverse_ok = { λ a h. round_trip a h };
 }
 
 /// a over b: NaN for 0 over 0, and refused over 0 else and where the quotient isn't whole.
@@ -64,9 +47,7 @@ fn quotient(a: i64, b: i64) -> Result<Whole, WholeFault>
             Err(WholeFault::Inexact)
         }
     } else if a % b == 0 {
-        Ok(Whole {
-            inner: Inner::Number(a / b),
-        })
+        Ok(Whole { number: a / b })
     } else {
         Err(WholeFault::NotWhole)
     }
@@ -83,12 +64,30 @@ fn rest(a: i64, b: i64) -> i64
     rest as i64
 }
 
+/// a times b.
+fn times(a: i64, b: i64) -> Result<Whole, WholeFault>
+    ensures { result ≡ exact (a *ℤ b) }
+{
+    Whole::of_number(a as i128 * b as i128)
+}
+
+/// A number, if its magnitude is at most 2^53.
+fn exact_number(n: i64) -> Result<Whole, WholeFault>
+    ensures { result ≡ exact n }
+{
+    if n.unsigned_abs() <= LIMIT {
+        Ok(Whole { number: n })
+    } else {
+        Err(WholeFault::Inexact)
+    }
+}
+
 impl Whole {
     /// NaN.
     pub fn nan() -> Whole
         ensures { result ≡ None }
     {
-        Whole { inner: Inner::Nan }
+        Whole { number: NAN }
     }
 
     /// A number; none exactly where its magnitude is above 2^53.
@@ -96,13 +95,27 @@ impl Whole {
         ensures number { IfSome result (λ w. w ≡ Some n) }
         ensures small { IsSome result ↔ (unsigned_abs n ≤ 2 ^ 53) }
     {
-        if n.unsigned_abs() <= LIMIT {
-            Some(Whole {
-                inner: Inner::Number(n),
-            })
-        } else {
-            None
+        exact_number(n).ok()
+    }
+
+    /// A number as a double.
+    ///
+    /// # Errors
+    /// Inexact exactly where its magnitude is above 2^53.
+    pub fn of_number(n: i128) -> Result<Whole, WholeFault>
+        ensures { result ≡ exact n }
+    {
+        match i64::try_from(n) {
+            Ok(n) => exact_number(n),
+            Err(_) => Err(WholeFault::Inexact),
         }
+    }
+
+    /// A number of 32 bits, each of which is a double.
+    pub fn of_small(n: i32) -> Whole
+        ensures { result ≡ Some n }
+    {
+        Whole { number: n as i64 }
     }
 
     /// The number; none exactly for NaN.
@@ -110,9 +123,10 @@ impl Whole {
         ensures number { result ≡ self }
         ensures small { IfSome result (λ n. unsigned_abs n ≤ 2 ^ 53) }
     {
-        match self.inner {
-            Inner::Number(n) => Some(n),
-            Inner::Nan => None,
+        if self.number == NAN {
+            None
+        } else {
+            Some(self.number)
         }
     }
 
@@ -120,8 +134,8 @@ impl Whole {
     pub fn add(self, b: Whole) -> Result<Whole, WholeFault>
         ensures { result ≡ whole_add self b }
     {
-        match (self.inner, b.inner) {
-            (Inner::Number(x), Inner::Number(y)) => checked(x as i128 + y as i128),
+        match (self.get(), b.get()) {
+            (Some(x), Some(y)) => exact_number(x + y),
             _ => Ok(Whole::nan()),
         }
     }
@@ -130,8 +144,8 @@ impl Whole {
     pub fn sub(self, b: Whole) -> Result<Whole, WholeFault>
         ensures { result ≡ whole_sub self b }
     {
-        match (self.inner, b.inner) {
-            (Inner::Number(x), Inner::Number(y)) => checked(x as i128 - y as i128),
+        match (self.get(), b.get()) {
+            (Some(x), Some(y)) => exact_number(x - y),
             _ => Ok(Whole::nan()),
         }
     }
@@ -140,8 +154,8 @@ impl Whole {
     pub fn mul(self, b: Whole) -> Result<Whole, WholeFault>
         ensures { result ≡ whole_mul self b }
     {
-        match (self.inner, b.inner) {
-            (Inner::Number(x), Inner::Number(y)) => checked(x as i128 * y as i128),
+        match (self.get(), b.get()) {
+            (Some(x), Some(y)) => times(x, y),
             _ => Ok(Whole::nan()),
         }
     }
@@ -151,8 +165,8 @@ impl Whole {
     pub fn div(self, b: Whole) -> Result<Whole, WholeFault>
         ensures { result ≡ whole_div self b }
     {
-        match (self.inner, b.inner) {
-            (Inner::Number(x), Inner::Number(y)) => quotient(x, y),
+        match (self.get(), b.get()) {
+            (Some(x), Some(y)) => quotient(x, y),
             _ => Ok(Whole::nan()),
         }
     }
@@ -162,10 +176,8 @@ impl Whole {
     pub fn modulo(self, b: Whole) -> Whole
         ensures { result ≡ whole_modulo self b }
     {
-        match (self.inner, b.inner) {
-            (Inner::Number(x), Inner::Number(y)) => Whole {
-                inner: Inner::Number(rest(x, y)),
-            },
+        match (self.get(), b.get()) {
+            (Some(x), Some(y)) => Whole { number: rest(x, y) },
             _ => Whole::nan(),
         }
     }
@@ -174,11 +186,9 @@ impl Whole {
     pub fn neg(self) -> Whole
         ensures { result ≡ whole_neg self }
     {
-        match self.inner {
-            Inner::Number(x) => Whole {
-                inner: Inner::Number(-x),
-            },
-            Inner::Nan => self,
+        match self.get() {
+            Some(x) => Whole { number: -x },
+            None => self,
         }
     }
 
@@ -186,11 +196,9 @@ impl Whole {
     pub fn abs(self) -> Whole
         ensures { result ≡ whole_abs self }
     {
-        match self.inner {
-            Inner::Number(x) => Whole {
-                inner: Inner::Number(x.abs()),
-            },
-            Inner::Nan => self,
+        match self.get() {
+            Some(x) => Whole { number: x.abs() },
+            None => self,
         }
     }
 }

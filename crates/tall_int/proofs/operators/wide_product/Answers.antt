@@ -4,7 +4,7 @@ use mir.Val.{SFits}
 use mir.Syntax.{w128}
 use Rattle.tall_int.specs.Numbers.{nearest}
 use Rattle.tall_int.proofs.QuotientLemmas.{saturated}
-use Rattle.tall_int.proofs.operators.product.Goals as goal
+use Rattle.tall_int.proofs.operators.wide_product.Goals as goal
 
 pub returns : goal.returns
 returns g c =
