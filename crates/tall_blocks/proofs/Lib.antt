@@ -1,0 +1,10 @@
+pub mod RowLaws
+pub mod OperationLaws
+pub mod SeenLaws
+pub mod LeastLaws
+pub mod FaultRowLaws
+pub mod BlockLaws
+pub mod CutLaws
+pub mod TreeOverLaws
+pub mod SpaceLaws
+pub mod PassLaws
