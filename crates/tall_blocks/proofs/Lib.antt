@@ -8,3 +8,8 @@ pub mod CutLaws
 pub mod TreeOverLaws
 pub mod SpaceLaws
 pub mod PassLaws
+pub mod FoldLaws
+pub mod EndLaws
+pub mod DistinctLaws
+pub mod GroupLaws
+pub mod PassWorkLaws

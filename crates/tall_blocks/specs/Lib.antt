@@ -3,4 +3,7 @@ pub mod Blocks
 pub mod Cut
 pub mod ValuesOver
 pub mod SeenFaults
+pub mod PassWork
+pub mod Folds
+pub mod GroupsOver
 pub mod BlockRows
