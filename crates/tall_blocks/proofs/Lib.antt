@@ -13,3 +13,4 @@ pub mod EndLaws
 pub mod DistinctLaws
 pub mod GroupLaws
 pub mod PassWorkLaws
+pub mod SampleLaws

@@ -6,4 +6,8 @@ pub mod SeenFaults
 pub mod PassWork
 pub mod Folds
 pub mod GroupsOver
+pub mod BlockSamples
 pub mod BlockRows
+pub mod CarryRows
+pub mod FoldRows
+pub mod GroupsOverRows

@@ -1,5 +1,5 @@
 //! Laws of the definitions, each the contract of a function without a body.
-ghost use Rattle.std.specs.Prelude.{◌≡◌, ◌⊎◌, ℕ, Bool, true, List, ◌∷◌, ◌++◌, Option, None, Some, slice_get};
+ghost use Rattle.std.specs.Prelude.{◌≡◌, ◌⊎◌, ℕ, Bool, true, List, [], ◌∷◌, ◌++◌, Option, None, Some, slice_get};
 ghost use Rattle.tall_value.specs.declared.class.Kind.{Kind};
 ghost use Rattle.tall_value.specs.declared.functions.Scan.{Scan};
 ghost use Rattle.tall_value.specs.Cells.{Seen};
@@ -10,6 +10,7 @@ ghost use Rattle.tall_semantics.specs.Talls.{Columns, Tall};
 ghost use Rattle.tall_semantics.specs.Deferred.{IsAmong, IsMeaning, IsOrdered, Vertex, fault_in, own_in};
 ghost use Rattle.tall_semantics.specs.Least.{IsLeast};
 ghost use Rattle.tall_blocks.specs.Blocks.{Block, all_rows, block_columns};
+ghost use Rattle.tall_blocks.specs.BlockSamples.{blocks, cut, value, vertices, whole_columns};
 ghost use Rattle.tall_blocks.specs.Carries.{Rows, carry_after, rows_joined, scan_start, scanned_from};
 ghost use Rattle.tall_blocks.specs.Cut.{AreAligned, AreCut, AreOfStore, IsCutWork};
 ghost use Rattle.tall_blocks.specs.SeenFaults.{AreSeen, IsPass};
@@ -49,4 +50,10 @@ pub fn a_pass_by_blocks_gives_the_values()
         → (i : ℕ) (v : Vertex) → slice_get vs i ≡ Some v → cut i ≡ true → fault_in f i ≡ None → (f i).outcome ≡ rows (rows_of_blocks (block_outcomes vs f cut (start_carries vs f) bs) i) }
     ensures least { (columns : Columns) (of_stores : ℕ → List ℕ) (vs : List Vertex) (f : ℕ → Tall) (store : ℕ) (cut : ℕ → Bool) (bs : List Block) → IsPass columns of_stores vs f store cut bs
         → (work : List ℕ) → IsCutWork vs cut (IsAmong work) → (cs : List (Option Fault)) → AreSeen vs f cut (IsAmong work) (start_carries vs f) bs cs → IsLeast (own_in vs f) (IsAmong work) (least_fault cs) }
+{}
+
+/// What a pass over blocks stands on can be met: a column, its logical cells, a constant over these, and a running sum, over
+/// two blocks of a row each.
+pub fn premises_can_be_met()
+    ensures { IsPass whole_columns (λ s. 1 ∷ 2 ∷ []) vertices value 0 cut blocks }
 {}
