@@ -215,3 +215,11 @@ distinct_of_both cs ds =
     let n : filter is_nan (distinct cs ++ distinct ds) ≡ filter is_nan cs ++ filter is_nan ds = filter-append is_nan (distinct cs) (distinct ds) ∙ (ap (λ xs. xs ++ filter is_nan (distinct ds)) (nan_distinct cs) ∙ ap (λ xs. filter is_nan cs ++ xs) (nan_distinct ds)) in
     let x : ascending (present (cs ++ ds)) ≡ ascending (present (distinct cs ++ distinct ds)) = ap ascending (filter-append is_present cs ds) ∙ (ascending_of_both (present cs) (present ds) ∙ ap ascending (sym a)) in
     ap (λ xs. xs ++ filter is_nan (cs ++ ds)) x ∙ ap (λ xs. ascending (present (distinct cs ++ distinct ds)) ++ xs) (filter-append is_nan cs ds ∙ sym n)
+
+-- the distinct ones of the first cells stand for these
+pub distinct_front : (cs ds : List Seen) → distinct (distinct cs ++ ds) ≡ distinct (cs ++ ds)
+distinct_front cs ds =
+    let a : present (distinct cs ++ ds) ≡ ascending (present cs) ++ present ds = filter-append is_present (distinct cs) ds ∙ ap (λ xs. xs ++ present ds) (present_distinct cs) in
+    let n : filter is_nan (distinct cs ++ ds) ≡ filter is_nan (cs ++ ds) = filter-append is_nan (distinct cs) ds ∙ (ap (λ xs. xs ++ filter is_nan ds) (nan_distinct cs) ∙ sym (filter-append is_nan cs ds)) in
+    let x : ascending (present (distinct cs ++ ds)) ≡ ascending (present (cs ++ ds)) = ap ascending a ∙ (ascending_front (present cs) (present ds) ∙ ap ascending (sym (filter-append is_present cs ds))) in
+    ap (λ xs. xs ++ filter is_nan (distinct cs ++ ds)) x ∙ ap (λ xs. ascending (present (cs ++ ds)) ++ xs) n

@@ -53,6 +53,17 @@ module _ {R : Type 0} where
       ∙ (ap (λ xs. xs ++ first_rows (k - length (first_rows k rs)) (first_rows k ss)) (first_less k k rs (omega (arith)))
       ∙ ap (λ xs. first_rows k rs ++ xs) (ap (λ j. first_rows j (first_rows k ss)) e ∙ first_less (k - length rs) k ss (omega (arith)))))
 
+  -- the first of the first rows stand for these
+  pub first_front : (k : ℕ) (rs ss : List R) → first_rows k (first_rows k rs ++ ss) ≡ first_rows k (rs ++ ss)
+  first_front k rs ss =
+      first_then k (first_rows k rs) ss
+      ∙ (ap (λ xs. xs ++ first_rows (k - length (first_rows k rs)) ss) (first_less k k rs (omega (arith)))
+      ∙ (ap (λ j. first_rows k rs ++ first_rows j ss) (left_over k (length rs) (length (first_rows k rs)) (length-take k rs)) ∙ sym (first_then k rs ss)))
+
+  pub first_none : (k : ℕ) → first_rows {R = R} k [] ≡ []
+  first_none zero = refl
+  first_none (suc k) = refl
+
   pub first_enough : (k : ℕ) (rs ss : List R) → k ≤ length rs → first_rows k (rs ++ ss) ≡ first_rows k rs
   first_enough k rs ss h = take-append-le k rs ss h
 
@@ -102,3 +113,9 @@ module _ {R : Type 0} where
       ∙ sym (last_then k (last_rows k rs) (last_rows k ss)
       ∙ (ap (λ xs. last_rows (k - length (last_rows k ss)) (last_rows k rs) ++ xs) (last_less k k ss (omega (arith)))
       ∙ ap (λ xs. xs ++ last_rows k ss) (ap (λ i. last_rows i (last_rows k rs)) e ∙ last_less (k - length ss) k rs (omega (arith)))))
+
+  pub last_front : (k : ℕ) (rs ss : List R) → last_rows k (last_rows k rs ++ ss) ≡ last_rows k (rs ++ ss)
+  last_front k rs ss = last_then k (last_rows k rs) ss ∙ (ap (λ xs. xs ++ last_rows k ss) (last_less (k - length ss) k rs (omega (arith))) ∙ sym (last_then k rs ss))
+
+  pub last_none : (k : ℕ) → last_rows {R = R} k [] ≡ []
+  last_none k = drop_all (0 - k) [] (omega (arith))

@@ -167,6 +167,29 @@ pub used_append : (passes_nan : Bool) (cs ds : List Seen) → used passes_nan (c
 used_append true cs ds = filter-append is_present cs ds
 used_append false cs ds = refl
 
+joined_nothing : (p : PartFold) (s : Value p) → joined p s (value_of p []) ≡ s
+joined_nothing exact_sum s = ap (λ b. (b, s.1 +ℤ pos 0)) (or_false s.0) ∙ ap (λ n. (s.0, n)) (let e : s.1 +ℤ pos 0 ≡ s.1 = omega (arith, ints) in e)
+  where
+    or_false : (a : Bool) → (a || false) ≡ a
+    or_false true = refl
+    or_false false = refl
+joined_nothing least_cell None = refl
+joined_nothing least_cell (Some c) = refl
+joined_nothing greatest_cell None = refl
+joined_nothing greatest_cell (Some c) = refl
+joined_nothing some_true true = refl
+joined_nothing some_true false = refl
+joined_nothing all_true true = refl
+joined_nothing all_true false = refl
+joined_nothing (number_of test) s = (let e : s + 0 ≡ s = omega (arith) in e)
+
+-- no further cells change nothing
+pub no_more : (g : Fold) (passes_nan : Bool) (s : Kept g) → more g s (used passes_nan []) ≡ s
+no_more (by_parts p) true s = joined_nothing p s
+no_more (by_parts p) false s = joined_nothing p s
+no_more (class_sum k) true s = refl
+no_more (class_sum k) false s = refl
+
 -- ---- reductions and methods
 
 pub every_one : (cs : List Seen) → filter every_cell cs ≡ cs

@@ -14,3 +14,4 @@ pub mod DistinctLaws
 pub mod GroupLaws
 pub mod PassWorkLaws
 pub mod SampleLaws
+pub mod BlockFoldLaws

@@ -6,6 +6,7 @@ pub mod SeenFaults
 pub mod PassWork
 pub mod Folds
 pub mod GroupsOver
+pub mod FoldsOfBlocks
 pub mod BlockSamples
 pub mod BlockRows
 pub mod CarryRows

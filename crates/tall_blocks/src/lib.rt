@@ -4,10 +4,12 @@
 //! No code stands here: a pass over a datastore is proved against the definitions in specs/.
 #![tactic(auto)]
 
+mod columns;
 mod laws;
 mod levels;
 mod parts;
 
+pub use columns::functions_of_columns_go_on_block_by_block;
 pub use laws::{
     a_pass_by_blocks_gives_the_values, a_value_has_the_rows_of_its_parts, premises_can_be_met,
     scans_go_on_from_a_carry,
