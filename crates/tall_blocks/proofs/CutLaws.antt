@@ -1,5 +1,5 @@
--- Values with a datastore's rows are made of stored columns by operators, filters and scans.
-use Rattle.std.specs.Prelude.{◌≡◌, refl, ℕ, Bool, true, Some, List, [], ◌∷◌, map, slice_get}
+-- What has a datastore's rows is a variable of it, or made of such values by an operator, a filter or a scan.
+use Rattle.std.specs.Prelude.{◌≡◌, refl, ℕ, Bool, true, false, Some, List, [], ◌∷◌, map, slice_get}
 use Rattle.std.proofs.Common.{ap, sym, subst, ◌∙◌, inl, inr}
 use Rattle.tall_value.specs.declared.class.Class.{Class}
 use Rattle.tall_semantics.specs.Operations.{Op, constant, unary, binary, filter, reduce, scan, head, tail, distinct, group, Made, stored, operation}
@@ -11,20 +11,23 @@ use Rattle.tall_semantics.specs.Talls.{Tall, Columns, shapes, made_tall}
 use Rattle.tall_semantics.specs.Deferred.{Vertex, IsMeaning, IsAmong}
 use Rattle.tall_blocks.specs.Cut.{IsKnownScalar, CanBeCut, AreCut, in_store, AreOfStore}
 use Rattle.tall_semantics.proofs.EqualityLaws.{spaces_decided}
-use Rattle.tall_blocks.proofs.SeenLaws.{true_or_false}
+use Rattle.tall_blocks.proofs.Choices.{true_or_false}
 use Rattle.tall_semantics.proofs.FitLaws.{space_of}
 use Rattle.tall_semantics.proofs.MeaningLaws.{tall_ok, made_value, tall_shape}
 use Rattle.tall_semantics.proofs.ShapeLaws.{place_ok, space_ok, shaped_is, placed_is, column_is, tested, inside, refused, groups_of}
 use Rattle.tall_semantics.proofs.SpaceLaws.{common_is}
 
+pub not_single : (s : ℕ) (u : Space) → in_store s u ≡ true → is_single u ≡ false
+not_single s single e = absurd (cc)
+not_single s (rows_of t) e = refl
+not_single s (kept u t) e = refl
+not_single s (first k u) e = refl
+not_single s (last k u) e = refl
+not_single s (spaces.distinct t) e = refl
+not_single s (groups m k d) e = refl
+
 in_single : (s : ℕ) (u : Space) → is_single u ≡ true → in_store s u ≡ true → ⊥
-in_single s single h e = cc
-in_single s (rows_of t) h e = cc
-in_single s (kept u t) h e = cc
-in_single s (first k u) h e = cc
-in_single s (last k u) h e = cc
-in_single s (spaces.distinct t) h e = cc
-in_single s (groups m k d) h e = cc
+in_single s u h e = (let n : is_single u ≡ false = not_single s u e in cc)
 
 module _ (s : ℕ) (f : ℕ → Tall) (cut : ℕ → Bool) where
   moved : (u w : Space) → u ≡ w → in_store s w ≡ true → in_store s u ≡ true

@@ -26,6 +26,7 @@ use Rattle.tall_value.specs.Filters.{is_true}
 use Rattle.tall_value.specs.Groups.{group_value}
 use Rattle.tall_value.specs.Reductions.{total, fold, folded, lesser, greater, present, is_present, is_nonzero, native_total, reduced}
 use Rattle.tall_value.proofs.OrderLaws.{cells_total}
+use Rattle.tall_blocks.proofs.Choices.{true_or_false, if_true, if_false}
 use Rattle.tall_blocks.specs.Folds.{PartFold, exact_sum, least_cell, greatest_cell, some_true, all_true, number_of, Value, value_of, best_joined, joined, Fold, by_parts, class_sum, Kept, start, more, used, native_fold, native_result, every_cell, fold_of, omits, reduction_result, number_result, method_fold, method_omits, method_result}
 
 -- ---- the least and the greatest
@@ -47,10 +48,6 @@ not_both Less h = refl
 not_both Equal h = absurd (cc)
 not_both Greater h = absurd (cc)
 
-true_or_false : (b : Bool) → (b ≡ true) ⊎ (b ≡ false)
-true_or_false true = inl refl
-true_or_false false = inr refl
-
 less_all : (c d e : Seen) → is_lt (cell_order c d) ≡ true → is_lt (cell_order d e) ≡ true → is_lt (cell_order c e) ≡ true
 less_all c d e p q = elim (true_or_false (is_lt (cell_order c e))) [
   | inl y ↦ y
@@ -60,14 +57,6 @@ less_all c d e p q = elim (true_or_false (is_lt (cell_order c e))) [
       absurd (cc)
 ]
 
-pick : (b : Bool) (c d : Seen) → b ≡ true → (if b then d else c) ≡ d
-pick true c d h = refl
-pick false c d h = absurd (cc)
-
-leave : (b : Bool) (c d : Seen) → b ≡ false → (if b then d else c) ≡ c
-leave true c d h = absurd (cc)
-leave false c d h = refl
-
 -- the better of two by a test: associative where the test goes over both ways
 module _ (test : Seen → Seen → Bool) (both : (c d e : Seen) → test c d ≡ true → test d e ≡ true → test c e ≡ true) (neither : (c d e : Seen) → test c d ≡ false → test d e ≡ false → test c e ≡ false) where
   abbrev better : Seen → Seen → Seen
@@ -76,12 +65,12 @@ module _ (test : Seen → Seen → Bool) (both : (c d e : Seen) → test c d ≡
   three : (c d e : Seen) (p q : Bool) → test c d ≡ p → test d e ≡ q → better (better c d) e ≡ better c (better d e)
   three c d e true true p q =
       let a : test c e ≡ true = both c d e p q in
-      ap (λ x. better x e) (pick (test c d) c d p) ∙ (pick (test d e) d e q ∙ sym (ap (better c) (pick (test d e) d e q) ∙ pick (test c e) c e a))
-  three c d e true false p q = ap (λ x. better x e) (pick (test c d) c d p) ∙ (leave (test d e) d e q ∙ sym (ap (better c) (leave (test d e) d e q) ∙ pick (test c d) c d p))
-  three c d e false true p q = ap (λ x. better x e) (leave (test c d) c d p) ∙ sym (ap (better c) (pick (test d e) d e q))
+      ap (λ x. better x e) (if_true (test c d) d c p) ∙ (if_true (test d e) e d q ∙ sym (ap (better c) (if_true (test d e) e d q) ∙ if_true (test c e) e c a))
+  three c d e true false p q = ap (λ x. better x e) (if_true (test c d) d c p) ∙ (if_false (test d e) e d q ∙ sym (ap (better c) (if_false (test d e) e d q) ∙ if_true (test c d) d c p))
+  three c d e false true p q = ap (λ x. better x e) (if_false (test c d) d c p) ∙ sym (ap (better c) (if_true (test d e) e d q))
   three c d e false false p q =
       let a : test c e ≡ false = neither c d e p q in
-      ap (λ x. better x e) (leave (test c d) c d p) ∙ (leave (test c e) c e a ∙ sym (ap (better c) (leave (test d e) d e q) ∙ leave (test c d) c d p))
+      ap (λ x. better x e) (if_false (test c d) d c p) ∙ (if_false (test c e) e c a ∙ sym (ap (better c) (if_false (test d e) e d q) ∙ if_false (test c d) d c p))
 
   better_assoc : (c d e : Seen) → better (better c d) e ≡ better c (better d e)
   better_assoc c d e = three c d e (test c d) (test d e) refl refl

@@ -1,3 +1,4 @@
+pub mod Choices
 pub mod RowLaws
 pub mod OperationLaws
 pub mod SeenLaws

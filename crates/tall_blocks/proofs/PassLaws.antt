@@ -26,20 +26,11 @@ use Rattle.tall_blocks.specs.ValuesOver.{value_over, IsOver, AreParts, start_of,
 use Rattle.tall_blocks.specs.SeenFaults.{AreSeen, IsPass}
 use Rattle.tall_blocks.proofs.BlockLaws.{over_exists, empty_rows, no_own_fault, split_at, in_order, whole_over, over_others}
 use Rattle.tall_blocks.specs.FoldsOfBlocks.{AreAsLong}
-use Rattle.tall_blocks.proofs.CutLaws.{are_cut}
+use Rattle.tall_blocks.proofs.CutLaws.{not_single, are_cut}
 use Rattle.tall_blocks.proofs.LeastLaws.{least_joined}
 use Rattle.tall_blocks.proofs.SeenLaws.{IsSplit, value_parts}
 use Rattle.tall_blocks.proofs.SpaceLaws.{aligned, space_numbers}
 use Rattle.tall_blocks.proofs.TreeOverLaws.{AreOfSpaces, op_in, first_in, next_carry}
-
-not_single : (s : ℕ) (u : Space) → in_store s u ≡ true → is_single u ≡ false
-not_single s single e = absurd (cc)
-not_single s (rows_of t) e = refl
-not_single s (kept u t) e = refl
-not_single s (first k u) e = refl
-not_single s (last k u) e = refl
-not_single s (spaces.distinct t) e = refl
-not_single s (groups m k d) e = refl
 
 op_of : (d op : Op) (xs : List Shape) → op_in d (tree_over op xs) ≡ op
 op_of d op [] = refl

@@ -27,7 +27,7 @@ use Rattle.tall_semantics.proofs.SpaceLaws.{value_fits}
 use Rattle.tall_semantics.proofs.VariantLaws.{number_is, same_number}
 use Rattle.tall_blocks.specs.Cut.{IsScalar, IsKnownScalar, IsCutWork, in_store, AreOfStore}
 use Rattle.tall_blocks.specs.PassWork.{HasRowsOf, IsCutAt, IsWorkOf, AreScalarsLower, is_below, cut_at}
-use Rattle.tall_blocks.proofs.SeenLaws.{true_or_false}
+use Rattle.tall_blocks.proofs.CutLaws.{not_single}
 
 -- ---- spaces
 
@@ -39,15 +39,6 @@ store_rows s (first k u) e = absurd (cc)
 store_rows s (last k u) e = absurd (cc)
 store_rows s (spaces.distinct t) e = absurd (cc)
 store_rows s (groups m k d) e = absurd (cc)
-
-single_none : (s : ℕ) (u : Space) → is_single u ≡ true → in_store s u ≡ false
-single_none s single e = refl
-single_none s (rows_of t) e = absurd (cc)
-single_none s (kept u t) e = absurd (cc)
-single_none s (first k u) e = absurd (cc)
-single_none s (last k u) e = absurd (cc)
-single_none s (spaces.distinct t) e = absurd (cc)
-single_none s (groups m k d) e = absurd (cc)
 
 no_rows : (u : Space) → is_single u ≡ true → has_rows u ≡ false
 no_rows single e = refl
@@ -146,7 +137,7 @@ module _ (columns : Columns) (of_stores : ℕ → List ℕ) (vs : List Vertex) (
   }
     where
       not_cut : (a : ℕ) → is_single (f a).shape.space ≡ true → (b : Bool) → cut a ≡ b → cut a ≡ false
-      not_cut a s true e = absurd (let q : in_store store (f a).shape.space ≡ true = ((cuts a).0 e).0 in let r : in_store store (f a).shape.space ≡ false = single_none store (f a).shape.space s in cc)
+      not_cut a s true e = absurd (let q : in_store store (f a).shape.space ≡ true = ((cuts a).0 e).0 in let r : is_single (f a).shape.space ≡ false = not_single store (f a).shape.space q in cc)
       not_cut a s false e = e
 
   module _ (work : List ℕ) (all : (i : ℕ) → IsAmong work i ↔ (cut i ≡ true)) where

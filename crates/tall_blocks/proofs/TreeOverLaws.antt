@@ -1,4 +1,5 @@
--- Over a block values with equal trees are equal, where neither has a fault; and so are the carries behind it.
+-- Over a block values with equal trees are equal, where neither has a fault, and behind it scans with equal trees have equal
+-- carries.
 use Rattle.std.specs.Prelude.{◌≡◌, refl, ℕ, zero, suc, ◌<◌, ◌+◌, Bool, true, false, None, Some, List, [], ◌∷◌, length, map, slice_get}
 use Rattle.std.proofs.Common.{ap, sym, subst, ◌∙◌, arith, inl, inr}
 use Rattle.std.proofs.lemmas.List.{length-map}
@@ -37,7 +38,8 @@ use Rattle.tall_semantics.proofs.FaultLaws.{same_own, same_rows}
 use Rattle.tall_semantics.proofs.ShapeLaws.{place_ok, space_ok, shaped_is, placed_is, column_is, tested, inside}
 use Rattle.tall_semantics.proofs.TreeLaws.{same_tall, two_at_most, not_column, one_shape}
 use Rattle.tall_semantics.proofs.OriginLaws.{none_or_some, faults_of_values}
-use Rattle.tall_blocks.proofs.SeenLaws.{true_or_false, known_scalar, own_of, none_args, least_none}
+use Rattle.tall_blocks.proofs.Choices.{true_or_false}
+use Rattle.tall_blocks.proofs.SeenLaws.{known_scalar, own_of, none_args, least_none}
 
 -- what the values over a block stand on so that spaces tell their rows: equal trees go on from equal carries, what is cut is
 -- no scalar, what is known as a scalar has the space of scalars and is told by its tree, and the variables have equal row
@@ -91,7 +93,7 @@ module _ (whole : Columns) {columns : Columns} {carries : ℕ → Seen} {vs : Li
   abbrev H : ℕ → Tall
   H = value_over f h
 
-  -- where one has no fault, so has the other, and they are equal
+  -- if the first has no fault, it is the second
   Same : ℕ → ℕ → Type 0
   Same a b = fault_of (h a) ≡ None → H a ≡ H b
 
@@ -166,7 +168,7 @@ module _ (whole : Columns) {columns : Columns} {carries : ℕ → Seen} {vs : Li
       same_tall (H i) (H j) (one_shape whole vs f meaning ordered i j v w e g t)
       (left ∙ (at ∙ (ap (own_over (carries i) w.at op) args ∙ (ap (λ k. own_over k w.at op (map H w.args)) (of_spaces.one_carry i j v w e g x y t) ∙ sym right))))
 
-  -- operands, cut or known
+  -- of operands, which are cut or known
   operands_same : (a b : ℕ) (u w : Vertex) → slice_get vs a ≡ Some u → slice_get vs b ≡ Some w → (cut a ≡ false → IsScalar (f a).outcome) → (cut b ≡ false → IsScalar (f b).outcome) → (f a).shape.tree ≡ (f b).shape.tree
       → (cut a ≡ true → cut b ≡ true → Same a b) → Same a b
   unfolding Same
@@ -196,12 +198,12 @@ module _ (whole : Columns) {columns : Columns} {carries : ℕ → Seen} {vs : Li
       (λ ca cb. by_bound n a b u.0 z.0 (omega (arith, l, m)) u.1 z.1 ca cb r))
       t
 
-  -- equal trees have equal outcomes over a block
+  -- ---- of values that are cut
   pub tree_same : (i j : ℕ) (v w : Vertex) → slice_get vs i ≡ Some v → slice_get vs j ≡ Some w → cut i ≡ true → cut j ≡ true → (f i).shape.tree ≡ (f j).shape.tree → fault_of (h i) ≡ None → fault_of (h j) ≡ None → h i ≡ h j
   unfolding Same
   tree_same i j v w e g x y t ni nj = ap (λ (z : Tall). z.outcome) (by_bound (suc i) i j v w (omega (arith)) e g x y t ni)
 
-  -- and so equally many rows, of a fault none
+  -- a fault has no rows, and both have one or none has
   pub rows_same : (i j : ℕ) (v w : Vertex) → slice_get vs i ≡ Some v → slice_get vs j ≡ Some w → cut i ≡ true → cut j ≡ true → (f i).shape.tree ≡ (f j).shape.tree → rows_in (h i) ≡ rows_in (h j)
   unfolding Same
   rows_same i j v w e g x y t = elim (none_or_some (fault_of (h i))) [
@@ -270,7 +272,7 @@ module _ (whole : Columns) {columns : Columns} {carries : ℕ → Seen} {vs : Li
       (one_shape whole vs f meaning ordered a b u.0 z.0 u.1 z.1 k, rows_same a b u.0 z.0 u.1 z.1 ca cb k))
       ∙ ap (λ k. carry_of f h (operation k) w.args (carries j)) same.op_is
 
-  -- the next block's carries are equal for equal trees too
+  -- ---- carries
   pub next_carry : (i j : ℕ) (v w : Vertex) → slice_get vs i ≡ Some v → slice_get vs j ≡ Some w → cut i ≡ true → cut j ≡ true → (f i).shape.tree ≡ (f j).shape.tree → next_carries vs f h carries i ≡ next_carries vs f h carries j
   next_carry i j v w e g x y t =
       ap (λ o. carry_at f h o (carries i)) e ∙ (carry_of_both i j v w v.made w.made e g x y refl refl t ∙ sym (ap (λ o. carry_at f h o (carries j)) g))
