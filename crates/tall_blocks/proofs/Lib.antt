@@ -16,3 +16,4 @@ pub mod GroupLaws
 pub mod PassWorkLaws
 pub mod SampleLaws
 pub mod BlockFoldLaws
+pub mod RowPlaceLaws

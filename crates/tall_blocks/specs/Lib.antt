@@ -1,4 +1,5 @@
 pub mod Carries
+pub mod RowPlaces
 pub mod Blocks
 pub mod Cut
 pub mod ValuesOver
@@ -12,3 +13,4 @@ pub mod BlockRows
 pub mod CarryRows
 pub mod FoldRows
 pub mod GroupsOverRows
+pub mod RowPlaceRows

@@ -18,5 +18,6 @@ pub use laws::{
 pub use levels::{a_pass_finds_the_fault_of_its_level, the_values_of_a_pass_are_told};
 pub use parts::{
     distinct_cells_of_parts_give_the_distinct_cells, ends_of_parts_give_the_ends,
-    groups_of_parts_give_the_groups, reductions_go_on_from_what_is_kept,
+    groups_of_parts_give_the_groups, places_and_numbers_of_rows_agree,
+    reductions_go_on_from_what_is_kept,
 };

@@ -1,16 +1,33 @@
 //! Laws of functions of columns over some rows and then others, each the contract of a function without a body.
-ghost use Rattle.std.specs.Prelude.{◌≡◌, ◌≤◌, ◌-◌, ℕ, pos, Bool, false, List, [], ◌++◌, Some, length, map};
+ghost use Rattle.std.specs.Prelude.{◌≡◌, Result, ◌≤◌, ◌<◌, ◌-◌, ℕ, pos, Bool, false, List, [], ◌++◌, Some, length, map};
 ghost use Rattle.tall_value.specs.declared.class.Kind.{Kind};
+ghost use Rattle.tall_value.specs.declared.faults.CellFault.{CellFault};
 ghost use Rattle.tall_value.specs.declared.functions.Method.{Method};
 ghost use Rattle.tall_value.specs.declared.functions.Reduction.{Reduction};
+ghost use Rattle.tall_value.specs.declared.functions.Scan.{Scan};
+ghost use Rattle.tall_value.specs.Columns.{cells, numbered};
+ghost use Rattle.tall_value.specs.Elementwise.{each_pair, each_row};
+ghost use Rattle.tall_value.specs.Filters.{kept};
 ghost use Rattle.tall_value.specs.Cells.{Seen, double};
 ghost use Rattle.tall_value.specs.Distinct.{distinct, distinct_rows};
 ghost use Rattle.tall_value.specs.Ends.{first_rows, last_rows};
 ghost use Rattle.tall_value.specs.Groups.{all_values, group_counts, group_keys, group_value, group_values};
 ghost use Rattle.tall_value.specs.Reductions.{reduced};
-ghost use Rattle.tall_blocks.specs.Carries.{Rows};
+ghost use Rattle.tall_blocks.specs.Carries.{Rows, scanned_from};
 ghost use Rattle.tall_blocks.specs.Folds.{Fold, Kept, PartFold, Value, by_parts, every_cell, fold_of, joined, method_fold, method_omits, method_result, more, number_of, omits, reduction_result, start, used, value_of};
+ghost use Rattle.tall_blocks.specs.RowPlaces.{kept_place, number_at, renumbered, with_numbers};
 ghost use Rattle.tall_blocks.specs.GroupsOver.{groups_joined, groups_more, groups_of, keys_of};
+
+/// Over the rows of a value operators, scans and filters give what they give over its cells, counted from 0, with the
+/// numbers of the rows: of the rows that have a cell, and of the row of the fault.
+pub fn places_and_numbers_of_rows_agree()
+    ensures one { (g : Seen → Result Seen CellFault) (rs : Rows) → each_row g rs ≡ with_numbers rs (each_row g (numbered 0 (cells rs))) }
+    ensures two { (g : Seen → Seen → Result Seen CellFault) (rs ss : Rows) → each_pair g rs ss ≡ with_numbers rs (each_pair g (numbered 0 (cells rs)) (numbered 0 (cells ss))) }
+    ensures scans { (s : Scan) (a : Kind) (c : Seen) (rs : Rows) → scanned_from s a c rs ≡ with_numbers rs (scanned_from s a c (numbered 0 (cells rs))) }
+    ensures same_cells { (rs others : Rows) → length others ≡ length rs → cells (renumbered rs others) ≡ cells others }
+    ensures kept_cells { (rs : Rows) (mask : List Seen) → cells (kept rs mask) ≡ kept (cells rs) mask }
+    ensures kept_numbers { (rs : Rows) (mask : List Seen) (k : ℕ) → k < length (kept rs mask) → number_at (kept rs mask) k ≡ number_at rs (kept_place mask k) }
+{}
 
 /// What a reduction and a method of groups give is told by what is kept of the cells; with further cells it goes on from
 /// there. What is kept of two parts joins, but for the sum in an integer class.
