@@ -1,5 +1,5 @@
 -- What is kept block by block is what is kept of a value's rows as a whole.
-use Rattle.std.specs.Prelude.{◌≡◌, refl, ℕ, Bool, true, None, Some, List, [], ◌∷◌, ◌++◌, length, map, slice_get}
+use Rattle.std.specs.Prelude.{◌≡◌, refl, ℕ, Bool, List, [], ◌∷◌, ◌++◌, length}
 use Rattle.std.proofs.Common.{ap, sym, ◌∙◌, arith}
 use Rattle.std.proofs.lemmas.List.{append_assoc, append-nil, length-append, length-map, map-append}
 use Rattle.tall_value.specs.Cells.{Seen}
@@ -12,7 +12,7 @@ use Rattle.tall_value.specs.declared.functions.Reduction.{Reduction}
 use Rattle.tall_semantics.specs.Outcomes.{Outcome, rows, rows_in, cells_in}
 use Rattle.tall_blocks.specs.Carries.{Rows}
 use Rattle.tall_blocks.specs.Folds.{Fold, Kept, start, more, used, fold_of, omits, reduction_result}
-use Rattle.tall_blocks.specs.GroupsOver.{Groups, groups_of, groups_more}
+use Rattle.tall_blocks.specs.GroupsOver.{groups_of}
 use Rattle.tall_blocks.specs.ValuesOver.{rows_of_blocks}
 use Rattle.tall_blocks.specs.FoldsOfBlocks.{AreAsLong, kept_of_blocks, first_of_blocks, last_of_blocks, distinct_of_blocks, groups_of_blocks}
 use Rattle.tall_blocks.proofs.DistinctLaws.{distinct_front}

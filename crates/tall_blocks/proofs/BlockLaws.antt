@@ -13,15 +13,13 @@ use Rattle.tall_value.specs.declared.class.Kind.{Kind}
 use Rattle.tall_value.specs.declared.class.Kind.TheVariants.{Integer, Logical, Double, Text}
 use Rattle.tall_value.specs.declared.functions.Scan.TheVariants.{CumSum, CumMin, CumMax}
 use Rattle.tall_semantics.specs.Talls.{Tall, Columns, outcomes, own_outcome, unless}
-use Rattle.tall_semantics.specs.Least.{IsLeast}
 use Rattle.tall_semantics.specs.Numbered.{AreNumbered}
 use Rattle.tall_semantics.specs.Deferred.{Vertex, IsMeaning, AllBelow, IsOrdered, IsAmong, own_in, fault_in}
 use Rattle.tall_blocks.specs.Carries.{carry_after, scanned_from, scan_start}
-use Rattle.tall_blocks.specs.Blocks.{Block, block_columns, all_rows, IsVariable, AreBlocksOf, RowsBelow, RowsFrom, AreAscending}
+use Rattle.tall_blocks.specs.Blocks.{Block, block_columns, all_rows, IsVariable, RowsBelow, RowsFrom}
 use Rattle.tall_blocks.proofs.SeenLaws.{IsSplit}
 use Rattle.tall_blocks.specs.Cut.{CanBeCut, AreCut, IsCutWork}
-use Rattle.tall_blocks.specs.ValuesOver.{carry_of, carry_at, next_carries, own_over, outcome_over, value_over, IsOver, start_of, start_at, start_carries, outcome_at, outcomes_in, outcomes_over}
-use Rattle.tall_blocks.specs.SeenFaults.{AreSeen}
+use Rattle.tall_blocks.specs.ValuesOver.{carry_of, carry_at, next_carries, own_over, outcome_over, value_over, IsOver, outcome_at, outcomes_in, outcomes_over}
 use Rattle.tall_semantics.proofs.InOrderLaws.{same_values}
 use Rattle.tall_semantics.proofs.OriginLaws.{get_before, below_among, tall_outcome}
 use Rattle.tall_blocks.proofs.SeenLaws.{own_split, own_of, all_none, known_none, own_fault_number}
@@ -30,7 +28,6 @@ use Rattle.tall_blocks.proofs.FaultRowLaws.{fault_holds, later_row}
 use Rattle.tall_blocks.proofs.RowLaws.{scan_begins}
 use Rattle.tall_semantics.proofs.Basics.{inside}
 use Rattle.tall_semantics.proofs.MeaningLaws.{stored_value, made_value}
-use Rattle.tall_blocks.proofs.LeastLaws.{least_joined}
 
 -- ---- they exist
 

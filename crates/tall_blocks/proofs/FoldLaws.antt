@@ -1,11 +1,10 @@
 -- Folds over some cells and then others, and the reductions and methods that they give.
-use Rattle.std.specs.Prelude.{◌≡◌, refl, ℤ, pos, ℕ, ◌+◌, ◌+ℤ◌, if◌then◌else◌, ◌||◌, ◌&&◌, ◌⊎◌, Bool, true, false, Option, None, Some, Ok, List, [], ◌∷◌, ◌++◌, length}
+use Rattle.std.specs.Prelude.{◌≡◌, refl, ℤ, pos, ◌+◌, ◌+ℤ◌, if◌then◌else◌, ◌||◌, ◌&&◌, Bool, true, false, Option, None, Some, List, [], ◌∷◌, ◌++◌, length}
 use Rattle.std.proofs.Common.{ap, sym, ◌∙◌, arith, inl, inr}
-use Rattle.std.specs.List.{filter, filter_map, list_any, list_all}
+use Rattle.std.specs.List.{filter, filter_map, list_any}
 use Rattle.std.specs.Ordering.{is_lt, is_gt, ordering_reverse}
 use Rattle.std.specs.declared.cmp.Ordering.{Ordering}
 use Rattle.std.specs.declared.cmp.Ordering.TheVariants.{Less, Equal, Greater}
-use Rattle.std.specs.Cmp.{IsTotalOrder}
 use Rattle.std.proofs.lemmas.Cmp.{upto}
 use Rattle.std.proofs.lemmas.Int.{ints}
 use Rattle.std.proofs.lemmas.List.{length-append}

@@ -1,34 +1,33 @@
 -- A pass over the blocks of a datastore: the least fault seen block by block is the least own fault, and a value without a
 -- fault has its rows of each block in order.
-use Rattle.std.specs.Prelude.{◌≡◌, refl, ℕ, Bool, true, false, Option, None, Some, List, [], ◌∷◌, ◌++◌, length, map, slice_get}
-use Rattle.std.proofs.Common.{ap, sym, subst, ◌∙◌, inl, inr}
+use Rattle.std.specs.Prelude.{◌≡◌, refl, ℕ, Bool, true, Option, None, Some, List, [], ◌∷◌, ◌++◌, length, map, slice_get}
+use Rattle.std.proofs.Common.{ap, sym, subst, ◌∙◌, inl}
 use Rattle.std.proofs.lemmas.List.{length-map}
 use Rattle.tall_value.specs.Cells.{Seen}
 use Rattle.tall_value.specs.Classes.{kind_of}
-use Rattle.tall_semantics.specs.Operations.{Op, constant, unary, binary, filter, reduce, scan, head, tail, distinct, group, Made, stored, operation, column}
-use Rattle.tall_semantics.specs.Spaces.{Space, single, rows_of, kept, first, last, groups, is_single}
-use Rattle.tall_semantics.specs.Spaces as spaces
+use Rattle.tall_semantics.specs.Operations.{Op, constant, unary, binary, filter, reduce, scan, head, tail, distinct, group, Made, stored, operation}
+use Rattle.tall_semantics.specs.Spaces.{is_single}
 use Rattle.tall_semantics.specs.Faults.{Fault, least_fault}
-use Rattle.tall_semantics.specs.Outcomes.{Outcome, rows, scalar, fault_of, rows_in}
+use Rattle.tall_semantics.specs.Outcomes.{Outcome, rows, fault_of, rows_in}
 use Rattle.tall_semantics.specs.Shapes.{Shape, tree_over}
 use Rattle.tall_semantics.specs.Talls.{Tall, Columns, shapes}
-use Rattle.tall_semantics.specs.Deferred.{Vertex, IsAmong, IsOrdered, own_in, fault_in}
+use Rattle.tall_semantics.specs.Deferred.{Vertex, IsAmong, own_in, fault_in}
 use Rattle.tall_semantics.specs.Least.{IsLeast}
 use Rattle.tall_semantics.specs.RowsOfSpaces.{Fits, numbers_in}
 use Rattle.tall_semantics.proofs.OriginLaws.{get_before, below_among}
 use Rattle.tall_semantics.proofs.MeaningLaws.{stored_value, tree_value}
 use Rattle.tall_semantics.proofs.SpaceLaws.{value_fits}
 use Rattle.tall_semantics.proofs.TreeLaws.{not_column, one_shape, one_value}
-use Rattle.tall_blocks.specs.Carries.{Rows, scan_start}
-use Rattle.tall_blocks.specs.Blocks.{Block, block_columns, all_rows, IsTable, AreTables, AreAscending, AreBlocksOf, IsVariable}
-use Rattle.tall_blocks.specs.Cut.{IsScalar, AreCut, AreAligned, IsCutWork, in_store, AreOfStore}
+use Rattle.tall_blocks.specs.Carries.{scan_start}
+use Rattle.tall_blocks.specs.Blocks.{Block, block_columns, all_rows, IsTable, AreTables, AreAscending}
+use Rattle.tall_blocks.specs.Cut.{IsScalar, AreCut, AreAligned, IsCutWork}
 use Rattle.tall_blocks.specs.ValuesOver.{value_over, IsOver, AreParts, start_of, start_at, start_carries, next_carries, outcomes_over, block_outcomes, rows_of_blocks}
-use Rattle.tall_blocks.specs.SeenFaults.{AreSeen, IsPass}
+use Rattle.tall_blocks.specs.SeenFaults.{AreSeen, IsBlockwise}
 use Rattle.tall_blocks.proofs.BlockLaws.{over_exists, empty_rows, no_own_fault, split_at, in_order, whole_over, over_others}
 use Rattle.tall_blocks.specs.FoldsOfBlocks.{AreAsLong}
 use Rattle.tall_blocks.proofs.CutLaws.{not_single, are_cut}
 use Rattle.tall_blocks.proofs.LeastLaws.{least_joined}
-use Rattle.tall_blocks.proofs.SeenLaws.{IsSplit, value_parts}
+use Rattle.tall_blocks.proofs.SeenLaws.{value_parts}
 use Rattle.tall_blocks.proofs.SpaceLaws.{aligned, space_numbers}
 use Rattle.tall_blocks.proofs.TreeOverLaws.{AreOfSpaces, op_in, first_in, next_carry}
 
@@ -66,7 +65,7 @@ scalar_single s x c fits = subst (Fits s) c.1 fits
 same_length : (x y : Outcome) → numbers_in x ≡ numbers_in y → length (rows_in x) ≡ length (rows_in y)
 same_length x y e = sym (length-map (rows_in x) (λ (r : ℕ × Seen). r.0)) ∙ (ap length e ∙ length-map (rows_in y) (λ (r : ℕ × Seen). r.0))
 
-module _ (columns : Columns) (of_stores : ℕ → List ℕ) (vs : List Vertex) (f : ℕ → Tall) (store : ℕ) (cut : ℕ → Bool) (bs : List Block) (pass : IsPass columns of_stores vs f store cut bs) where
+module _ (columns : Columns) (of_stores : ℕ → List ℕ) (vs : List Vertex) (f : ℕ → Tall) (store : ℕ) (cut : ℕ → Bool) (bs : List Block) (pass : IsBlockwise columns of_stores vs f store cut bs) where
   can : AreCut f cut vs
   can = are_cut columns vs f cut store pass.meaning pass.of_store
 

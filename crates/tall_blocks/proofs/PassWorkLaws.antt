@@ -1,37 +1,38 @@
 -- The values of a pass at one level can be cut into blocks, and the least own fault among them is that of the level's work.
-use Rattle.std.specs.Prelude.{◌≡◌, refl, ℕ, zero, suc, ◌<◌, ◌≤◌, ◌+◌, ◌*◌, ◌==◌, ◌||◌, ◌&&◌, not, nat_lt, if◌then◌else◌, ◌⊎◌, ◌↔◌, Bool, true, false, Option, None, Some, List, [], ◌∷◌, map, slice_get}
+use Rattle.std.specs.Prelude.{◌≡◌, refl, ℕ, ◌<◌, ◌≤◌, ◌+◌, ◌*◌, ◌==◌, ◌&&◌, not, nat_lt, ◌↔◌, Bool, true, false, Option, None, Some, List, [], ◌∷◌, map, slice_get}
 use Rattle.std.proofs.Common.{ap, sym, subst, ◌∙◌, arith, inl, inr}
-use Rattle.std.specs.List.{list_any}
 use Rattle.std.proofs.lemmas.Bool.Decides.{nat_tests}
-use Rattle.tall_semantics.specs.Operations.{Op, Made, stored, operation}
-use Rattle.tall_semantics.specs.Spaces.{Space, single, rows_of, kept, first, last, groups, is_single, has_rows}
+use Rattle.tall_semantics.specs.Operations.{Made, stored, operation}
+use Rattle.tall_semantics.specs.Spaces.{Space, single, rows_of, kept, first, last, groups, is_single, has_rows, store_of}
 use Rattle.tall_semantics.specs.Spaces as spaces
-use Rattle.tall_semantics.specs.Faults.{Fault, least_fault}
+use Rattle.tall_semantics.specs.Faults.{Fault}
 use Rattle.tall_semantics.specs.Outcomes.{Outcome, rows, scalar, fault, fault_of}
-use Rattle.tall_semantics.specs.Shapes.{Shape, shape, level}
+use Rattle.tall_semantics.specs.Shapes.{Shape, level}
 use Rattle.tall_semantics.specs.Talls.{Tall, Columns, shapes, made_tall}
-use Rattle.tall_semantics.specs.Deferred.{Vertex, IsMeaning, IsAmong, AllBelow, DependsOn, itself, through, fault_in, own_in}
+use Rattle.tall_semantics.specs.Deferred.{Vertex, IsMeaning, IsAmong, DependsOn, itself, through, fault_in, own_in}
 use Rattle.tall_semantics.specs.Least.{AtMost, IsLeast, IsBelow}
-use Rattle.tall_semantics.specs.Levels.{UpTo, IsWork}
+use Rattle.tall_semantics.specs.Levels.{UpTo}
 use Rattle.tall_semantics.specs.Numbered.{nodes_by, number_at, levels_in, IsGather}
-use Rattle.tall_semantics.specs.Ranks.{any_rows, is_in_pass, rank, rank_at, ranks_in}
+use Rattle.tall_semantics.specs.Ranks.{is_in_pass, rank, rank_at, ranks_in}
 use Rattle.tall_semantics.specs.RowsOfSpaces.{AreColumns, Fits}
-use Rattle.tall_semantics.proofs.Basics.{inside, both}
-use Rattle.tall_semantics.proofs.CandidateLaws.{known_no_fault}
+use Rattle.tall_semantics.proofs.Basics.{both}
+use Rattle.tall_semantics.proofs.CandidateLaws.{further, known_no_fault}
 use Rattle.tall_semantics.proofs.LevelLaws.{split}
 use Rattle.tall_semantics.proofs.MeaningLaws.{tall_ok, made_value, tall_shape}
 use Rattle.tall_semantics.proofs.OrderLaws.{by_number}
 use Rattle.tall_semantics.proofs.OriginLaws.{get_before, below_among}
+use Rattle.tall_semantics.specs.Plans.{is_among, is_store}
+use Rattle.tall_semantics.proofs.ReachLaws.{any_of, of_any}
 use Rattle.tall_semantics.proofs.ShapeLaws.{IsOneOf, lesser_level}
 use Rattle.tall_semantics.proofs.SpaceLaws.{value_fits}
 use Rattle.tall_semantics.proofs.VariantLaws.{number_is, same_number}
-use Rattle.tall_blocks.specs.Cut.{IsScalar, IsKnownScalar, IsCutWork, in_store, AreOfStore}
-use Rattle.tall_blocks.specs.PassWork.{HasRowsOf, IsCutAt, IsWorkOf, AreScalarsLower, is_below, cut_at}
+use Rattle.tall_blocks.specs.Cut.{IsScalar, IsCutWork, AreOfStore}
+use Rattle.tall_blocks.specs.PassWork.{IsCutAt, IsWorkOf, AreScalarsLower, is_below, cut_at}
 use Rattle.tall_blocks.proofs.CutLaws.{not_single}
 
 -- ---- spaces
 
-store_rows : (s : ℕ) (u : Space) → in_store s u ≡ true → has_rows u ≡ true
+store_rows : (s : ℕ) (u : Space) → store_of u ≡ Some s → has_rows u ≡ true
 store_rows s single e = absurd (cc)
 store_rows s (rows_of t) e = refl
 store_rows s (kept u t) e = store_rows s u e
@@ -107,14 +108,10 @@ module _ (columns : Columns) (vs : List Vertex) (f : ℕ → Tall) (meaning : Is
 
 -- ---- the values of a pass
 
-further : (vs : List Vertex) (r i a : ℕ) (v : Vertex) → DependsOn vs r i → slice_get vs i ≡ Some v → IsAmong v.args a → DependsOn vs r a
-further vs r i a v (itself k) e among = through i a a v e among (itself a)
-further vs r i a v (through k b l w g in_w d) e among = through k b a w g in_w (further vs b l a v d e among)
-
 module _ (columns : Columns) (of_stores : ℕ → List ℕ) (vs : List Vertex) (f : ℕ → Tall) (levels : ℕ → ℕ) (roots needed : List ℕ) (gather : IsGather columns vs f levels roots needed)
     (store k : ℕ) (c : Option Fault) (candidate : IsLeast (own_in vs f) (UpTo (nodes_by vs f levels) (IsAmong needed) k) c) (cut : ℕ → Bool) (cuts : IsCutAt store vs f levels needed (k + 1) c cut) where
   needed_operand : (i a : ℕ) (v : Vertex) → slice_get vs i ≡ Some v → IsAmong needed i → IsAmong v.args a → IsAmong needed a
-  needed_operand i a v e n among = (let r = (gather.under i).0 n in (gather.under a).1 (r.0, r.1, further vs r.0 i a v r.2 e among))
+  needed_operand i a v e n among = (let r = (gather.under i).0 n in (gather.under a).1 (r.0, r.1, further vs r.0 i a r.2 (through i a a v e among (itself a))))
 
   -- an operand is needed, and has no greater level and number
   operand_at : (i a : ℕ) (v : Vertex) → slice_get vs i ≡ Some v → cut i ≡ true → IsAmong v.args a → IsAmong needed a × (levels a ≤ levels i) × (levels i ≤ k + 1) × IsBelow c (number_at (slice_get vs a))
@@ -137,7 +134,7 @@ module _ (columns : Columns) (of_stores : ℕ → List ℕ) (vs : List Vertex) (
   }
     where
       not_cut : (a : ℕ) → is_single (f a).shape.space ≡ true → (b : Bool) → cut a ≡ b → cut a ≡ false
-      not_cut a s true e = absurd (let q : in_store store (f a).shape.space ≡ true = ((cuts a).0 e).0 in let r : is_single (f a).shape.space ≡ false = not_single store (f a).shape.space q in cc)
+      not_cut a s true e = absurd (let q : store_of (f a).shape.space ≡ Some store = ((cuts a).0 e).0 in let r : is_single (f a).shape.space ≡ false = not_single store (f a).shape.space q in cc)
       not_cut a s false e = e
 
   module _ (work : List ℕ) (all : (i : ℕ) → IsAmong work i ↔ (cut i ≡ true)) where
@@ -176,28 +173,20 @@ module _ (columns : Columns) (of_stores : ℕ → List ℕ) (vs : List Vertex) (
       λ h. record {
         one = λ x e. (let w = h.one x e in (w.0, in_work w.0 w.1, w.2));
         least = λ i y w own. h.least i y (at_level i y w own) own;
-      })
+      },
+    )
 
 -- ---- the test
 
-list_has : (needed : List ℕ) (i : ℕ) → (list_any (λ j. j == i) needed ≡ true) ↔ IsAmong needed i
-list_has needed i = (there needed, back needed)
-  where
-    by : (j i : ℕ) (b rest : Bool) → (j == i) ≡ b → (b || rest) ≡ true → (j ≡ i) ⊎ (rest ≡ true)
-    by j i true rest e h = inl (number_is j i e)
-    by j i false rest e h = inr h
+among_test : (i : ℕ) (needed : List ℕ) → (is_among i needed ≡ true) ↔ IsAmong needed i
+among_test i needed = (
+  λ h. (let w = any_of (λ j. j == i) needed h in subst (IsAmong needed) (number_is w.0 i w.2) w.1),
+  λ h. of_any (λ j. j == i) needed i h (same_number i),
+)
 
-    there : (needed : List ℕ) → list_any (λ j. j == i) needed ≡ true → IsAmong needed i
-    there [] h = absurd (cc)
-    there (j ∷ js) h = elim (by j i (j == i) (list_any (λ j. j == i) js) refl h) [ inl e ↦ inl e | inr r ↦ inr (there js r) ]
-
-    or_true : (a b : Bool) → b ≡ true → (a || b) ≡ true
-    or_true true b h = refl
-    or_true false b h = h
-
-    back : (needed : List ℕ) → IsAmong needed i → list_any (λ j. j == i) needed ≡ true
-    back [] h = absurd h
-    back (j ∷ js) h = elim h [ inl e ↦ ap (λ b. b || list_any (λ j. j == i) js) (subst (λ n. (j == n) ≡ true) e (same_number j)) | inr r ↦ or_true (j == i) (list_any (λ j. j == i) js) (back js r) ]
+store_test : (s : ℕ) (o : Option ℕ) → (is_store s o ≡ true) ↔ (o ≡ Some s)
+store_test s None = ((λ h. absurd (cc)), (λ h. absurd (cc)))
+store_test s (Some t) = ((λ h. ap Some (number_is t s h)), (λ h. ap (is_store s) h ∙ same_number s))
 
 at_most : (k n : ℕ) → (not (nat_lt k n) ≡ true) ↔ (n ≤ k)
 at_most k n = ((λ h. grind (arith, nat_tests)), (λ h. grind (arith, nat_tests)))
@@ -213,11 +202,12 @@ and_true false b p q = p
 pub cut_decided : (store : ℕ) (vs : List Vertex) (f : ℕ → Tall) (levels : ℕ → ℕ) (needed : List ℕ) (k : ℕ) (c : Option Fault) → IsCutAt store vs f levels needed k c (cut_at store vs f levels needed k c)
 cut_decided store vs f levels needed k c i = (
   λ h.
-      let a = both (in_store store (f i).shape.space) _ h in
-      let b = both (list_any (λ j. j == i) needed) _ a.1 in
+      let a = both (is_store store (store_of (f i).shape.space)) _ h in
+      let b = both (is_among i needed) _ a.1 in
       let d = both (not (nat_lt k (levels i))) (is_below c (number_at (slice_get vs i))) b.1 in
-      (a.0, ((list_has needed i).0 b.0, (at_most k (levels i)).0 d.0), (below_test c (number_at (slice_get vs i))).0 d.1),
+      ((store_test store (store_of (f i).shape.space)).0 a.0, ((among_test i needed).0 b.0, (at_most k (levels i)).0 d.0), (below_test c (number_at (slice_get vs i))).0 d.1),
   λ w.
-      and_true (in_store store (f i).shape.space) _ w.0
-      (and_true (list_any (λ j. j == i) needed) _ ((list_has needed i).1 w.1.0)
-      (and_true (not (nat_lt k (levels i))) (is_below c (number_at (slice_get vs i))) ((at_most k (levels i)).1 w.1.1) ((below_test c (number_at (slice_get vs i))).1 w.2))))
+      and_true (is_store store (store_of (f i).shape.space)) _ ((store_test store (store_of (f i).shape.space)).1 w.0)
+      (and_true (is_among i needed) _ ((among_test i needed).1 w.1.0)
+      (and_true (not (nat_lt k (levels i))) (is_below c (number_at (slice_get vs i))) ((at_most k (levels i)).1 w.1.1) ((below_test c (number_at (slice_get vs i))).1 w.2))),
+)

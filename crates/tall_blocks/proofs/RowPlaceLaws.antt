@@ -1,5 +1,5 @@
 -- What is counted from 0 over a block's cells is, with the numbers of the rows, what is told over the rows.
-use Rattle.std.specs.Prelude.{◌≡◌, refl, ℤ, ℕ, zero, suc, ◌<◌, ◌≤◌, ◌+◌, ◌-◌, if◌then◌else◌, Bool, true, false, Option, None, Some, Result, Ok, Err, List, [], ◌∷◌, length}
+use Rattle.std.specs.Prelude.{◌≡◌, refl, ℤ, ℕ, zero, suc, ◌<◌, ◌≤◌, ◌+◌, ◌-◌, if◌then◌else◌, Bool, true, false, Option, None, Result, Ok, Err, List, [], ◌∷◌, length}
 use Rattle.std.proofs.Common.{ap, sym, ◌∙◌, arith}
 use Rattle.tall_int.specs.Doubles.{whole_add}
 use Rattle.tall_value.specs.declared.class.IntKind.{IntKind}

@@ -1,17 +1,22 @@
 -- What a pass over blocks stands on is met by a small list of vertices.
-use Rattle.std.specs.Prelude.{◌≡◌, refl, ℕ, zero, suc, pos, true, Some, List, [], ◌∷◌, slice_get}
-use Rattle.std.proofs.Common.{ap, subst, arith, inl, inr}
+use Rattle.std.specs.Prelude.{◌≡◌, refl, ℕ, zero, suc, pos, true, Some, [], ◌∷◌, slice_get}
+use Rattle.std.proofs.Common.{ap, subst, ◌∙◌, arith, inl, inr}
+use Rattle.std.proofs.lemmas.List.Elements.{All-nil, All-cons}
+use Rattle.tall_value.specs.declared.class.Class.{Class}
+use Rattle.tall_value.specs.declared.class.Class.TheVariants.{Double}
+use Rattle.tall_semantics.specs.ClassesOfCells.{HasClass, HaveClass}
+use Rattle.tall_semantics.specs.Operations.{Made, stored, operation}
 use Rattle.tall_semantics.specs.Talls.{tall}
-use Rattle.tall_semantics.specs.Spaces.{is_single}
-use Rattle.tall_semantics.specs.Deferred.{Vertex, AllBelow, IsAmong, IsMeaning}
-use Rattle.tall_semantics.specs.InOrder.{IsAccepted, IsSound, tall_in, talls_from, talls}
+use Rattle.tall_semantics.specs.Spaces.{is_single, store_of}
+use Rattle.tall_semantics.specs.Deferred.{Vertex, AllBelow, IsAmong}
+use Rattle.tall_semantics.specs.InOrder.{IsAccepted, IsSound, talls_from}
 use Rattle.tall_semantics.specs.RowsOfSpaces.{AreColumns}
-use Rattle.tall_semantics.specs.Samples.{number}
+use Rattle.tall_semantics.specs.Samples.{number, nan}
 use Rattle.tall_semantics.proofs.AdditionLaws.{all_follow}
 use Rattle.tall_semantics.proofs.Basics.{inside}
 use Rattle.tall_semantics.proofs.InOrderLaws.{talls_mean}
-use Rattle.tall_blocks.specs.Cut.{IsKnownScalar, in_store, AreOfStore}
-use Rattle.tall_blocks.specs.SeenFaults.{IsPass}
+use Rattle.tall_blocks.specs.Cut.{IsKnownScalar, AreOfStore}
+use Rattle.tall_blocks.specs.SeenFaults.{IsBlockwise}
 use Rattle.tall_blocks.specs.BlockSamples.{vertices, blocks, whole_columns, value, cut}
 
 sound : IsSound whole_columns vertices
@@ -23,13 +28,30 @@ sound (suc (suc (suc zero))) v e = subst (λ u. AllBelow 3 u.args × IsAccepted 
 sound (suc (suc (suc (suc zero)))) v e = subst (λ u. AllBelow 4 u.args × IsAccepted whole_columns vertices u) (inside _ v e) ((omega (arith), tt), (value 4, refl))
 sound (suc (suc (suc (suc (suc i))))) v e = absurd (cc)
 
+class_in : Made → Class
+class_in (stored s v c) = c
+class_in (operation op) = Double
+
+stored_class : (i : ℕ) (v : Vertex) (s a : ℕ) (c : Class) → slice_get vertices i ≡ Some v → v.made ≡ stored s a c → Double ≡ c
+unfolding class_in
+stored_class zero v s a c e m = ap (λ (u : Vertex). class_in u.made) (inside _ v e) ∙ ap class_in m
+stored_class (suc zero) v s a c e m = ap (λ (u : Vertex). class_in u.made) (inside _ v e) ∙ ap class_in m
+stored_class (suc (suc zero)) v s a c e m = ap (λ (u : Vertex). class_in u.made) (inside _ v e) ∙ ap class_in m
+stored_class (suc (suc (suc zero))) v s a c e m = ap (λ (u : Vertex). class_in u.made) (inside _ v e) ∙ ap class_in m
+stored_class (suc (suc (suc (suc zero)))) v s a c e m = ap (λ (u : Vertex). class_in u.made) (inside _ v e) ∙ ap class_in m
+stored_class (suc (suc (suc (suc (suc i))))) v s a c e m = absurd (cc)
+
+doubles_there : (s a : ℕ) → HaveClass Double (whole_columns s a)
+doubles_there s a = All-cons (HasClass Double) (number (pos 0)) (nan ∷ []) refl (All-cons (HasClass Double) nan [] refl (All-nil (HasClass Double)))
+
 readings : AreColumns whole_columns (λ s. 1 ∷ 2 ∷ []) vertices
 readings = record {
   no_scalar = λ i v s a c x e m h. absurd (cc);
   same_rows = λ i v s a c e m h. refl;
+  classes = λ i v s a c e m. subst (λ k. HaveClass k (whole_columns s a)) (stored_class i v s a c e m) (doubles_there s a);
 }
 
-rows_here : (i : ℕ) (v : Vertex) → slice_get vertices i ≡ Some v → cut i ≡ true → in_store 0 (value i).shape.space ≡ true
+rows_here : (i : ℕ) (v : Vertex) → slice_get vertices i ≡ Some v → cut i ≡ true → store_of (value i).shape.space ≡ Some 0
 unfolding tall talls_from
 rows_here zero v e c = refl
 rows_here (suc zero) v e c = refl
@@ -39,7 +61,7 @@ rows_here (suc (suc (suc (suc zero)))) v e c = refl
 rows_here (suc (suc (suc (suc (suc i))))) v e c = absurd (cc)
 
 Operand : ℕ → Type 0
-Operand a = (in_store 0 (value a).shape.space ≡ true → cut a ≡ true) × (is_single (value a).shape.space ≡ true → IsKnownScalar value cut a)
+Operand a = (store_of (value a).shape.space ≡ Some 0 → cut a ≡ true) × (is_single (value a).shape.space ≡ true → IsKnownScalar value cut a)
 
 of_x : Operand 0
 unfolding Operand tall talls_from
@@ -70,7 +92,7 @@ of_store = record {
   scalars_known = λ i a v e c among alone. (operand i a v e among).1 alone;
 }
 
-pub sample_pass : IsPass whole_columns (λ s. 1 ∷ 2 ∷ []) vertices value 0 cut blocks
+pub sample_pass : IsBlockwise whole_columns (λ s. 1 ∷ 2 ∷ []) vertices value 0 cut blocks
 sample_pass =
     let follow = all_follow vertices refl in
     record {

@@ -8,7 +8,7 @@ use Rattle.tall_value.specs.declared.class.Class.{Class}
 use Rattle.tall_value.specs.declared.functions.Scan.{Scan}
 use Rattle.tall_value.specs.Cells.{Seen, amount}
 use Rattle.tall_value.specs.Classes.{kind_of}
-use Rattle.tall_semantics.specs.Operations.{Op, constant, unary, binary, filter, reduce, scan, head, tail, distinct, group, Made, stored, operation, Tree, column, leaf, one, two}
+use Rattle.tall_semantics.specs.Operations.{Op, constant, unary, binary, filter, reduce, scan, head, tail, distinct, group, Made, stored, operation, Tree, leaf}
 use Rattle.tall_value.specs.declared.class.Kind.{Kind}
 use Rattle.tall_value.specs.declared.class.Kind.TheVariants.{Integer, Logical, Double, Text}
 use Rattle.tall_value.specs.declared.functions.Scan.TheVariants.{CumSum, CumMin, CumMax}
@@ -21,25 +21,21 @@ use Rattle.tall_value.specs.Scans.{integer_sums, bests}
 use Rattle.tall_semantics.specs.Equality.{same_space}
 use Rattle.tall_semantics.proofs.RowNumberLaws.{numbers, ok_rows, ok_inside, each_row_numbers, each_pair_numbers, integer_numbers, double_numbers, best_numbers, kept_numbers}
 use Rattle.tall_semantics.proofs.SpaceLaws.{num_one, num_rows, num_alone, common_is}
-use Rattle.tall_semantics.specs.Spaces.{Space, rows_of, kept, is_single}
-use Rattle.tall_semantics.specs.Faults.{At, Fault, least_fault}
+use Rattle.tall_semantics.specs.Spaces.{Space, rows_of, kept}
+use Rattle.tall_semantics.specs.Faults.{At}
 use Rattle.tall_semantics.specs.Outcomes.{Outcome, rows, scalar, fault, fault_of, rows_in, cells_in, elementwise_two}
 use Rattle.tall_semantics.specs.RowsOfSpaces.{numbers_in}
-use Rattle.tall_semantics.specs.Shapes.{Shape, place_of, tree_over, common, masked}
-use Rattle.tall_semantics.specs.Talls.{Tall, Columns, shapes, outcomes}
+use Rattle.tall_semantics.specs.Shapes.{Shape, place_of, common, masked}
+use Rattle.tall_semantics.specs.Talls.{Tall, Columns, shapes}
 use Rattle.tall_semantics.specs.Deferred.{Vertex, IsMeaning, IsOrdered, IsAmong, fault_in, least_in}
-use Rattle.tall_blocks.specs.Carries.{Rows, carry_after, or_zero, sums_from, scanned_from}
-use Rattle.tall_blocks.specs.Cut.{IsScalar, CanBeCut, AreCut, AreAligned}
-use Rattle.tall_blocks.specs.ValuesOver.{carry_of, carry_at, next_carries, own_over, outcome_over, value_over, IsOver}
+use Rattle.tall_blocks.specs.Carries.{Rows, or_zero, sums_from, scanned_from}
+use Rattle.tall_blocks.specs.Cut.{CanBeCut, AreCut, AreAligned}
+use Rattle.tall_blocks.specs.ValuesOver.{own_over, outcome_over, value_over, IsOver}
 use Rattle.tall_semantics.proofs.EqualityLaws.{spaces_decided}
 use Rattle.tall_semantics.proofs.OriginLaws.{get_before, below_among}
-use Rattle.tall_semantics.proofs.MeaningLaws.{stored_value, made_value, tall_shape, tree_value}
-use Rattle.tall_semantics.proofs.FaultLaws.{same_own, same_rows}
+use Rattle.tall_semantics.proofs.MeaningLaws.{stored_value, made_value, tall_shape}
 use Rattle.tall_semantics.proofs.ShapeLaws.{place_ok, space_ok, shaped_is, placed_is, column_is, tested, inside}
-use Rattle.tall_semantics.proofs.TreeLaws.{same_tall, two_at_most, not_column, one_shape}
-use Rattle.tall_semantics.proofs.OriginLaws.{none_or_some, faults_of_values}
-use Rattle.tall_blocks.proofs.Choices.{true_or_false}
-use Rattle.tall_blocks.proofs.SeenLaws.{known_scalar, own_of, none_args, least_none}
+use Rattle.tall_blocks.proofs.SeenLaws.{own_of, none_args, least_none}
 use Rattle.tall_blocks.specs.Blocks.{IsVariable}
 use Rattle.tall_blocks.proofs.TreeOverLaws.{AreOfSpaces, tree_same}
 
@@ -165,9 +161,9 @@ module _ (whole : Columns) {columns : Columns} {carries : ℕ → Seen} {vs : Li
       record { u = b.0; there = b.1; is_cut = is_cut; none = least_none (fault_in (value_over f h)) v.args a none among })
       (own_of over can i v op e c q none) n equal
 
-  store_of : Space → ℕ
-  store_of (rows_of s) = s
-  store_of s = 0
+  base_of : Space → ℕ
+  base_of (rows_of s) = s
+  base_of s = 0
 
   inner_of : Space → Space
   inner_of (kept s t) = s
@@ -182,11 +178,11 @@ module _ (whole : Columns) {columns : Columns} {carries : ℕ → Seen} {vs : Li
       → ((b : ℕ) → b < j → FreeAt b → (f i).shape.space ≡ (f b).shape.space → numbers_in (h i) ≡ numbers_in (h b))
       → ((a b : ℕ) → a < i → b < j → FreeAt a → FreeAt b → (f a).shape.space ≡ (f b).shape.space → numbers_in (h a) ≡ numbers_in (h b))
       → numbers_in (h i) ≡ numbers_in (h j)
-  unfolding store_of inner_of mask_of
+  unfolding base_of inner_of mask_of
   compared i j (lower a l x s n) w t down_i down_j both = n ∙ down_i a l x (s ∙ t)
   compared i j v (lower b l y s n) t down_i down_j both = down_j b l y (t ∙ sym s) ∙ sym n
   compared i j (base v s a e c m p x) (base w u b g d n q y) t down_i down_j both =
-      let same : s ≡ u = ap store_of (sym p ∙ (t ∙ q)) in
+      let same : s ≡ u = ap base_of (sym p ∙ (t ∙ q)) in
       ap numbers_in x ∙ (of_spaces.same_numbers i j v w s a b e g c d m (subst (λ k. IsVariable w.made k b) (sym same) n) ∙ (ap (λ k. numbers_in (columns k b)) same ∙ sym (ap numbers_in y)))
   compared i j (base v s a e c d p x) (masks y m ly lm py pm q n) t down_i down_j both = absurd (let z : rows_of s ≡ kept (f y).shape.space (f m).shape.tree = sym p ∙ (t ∙ q) in cc)
   compared i j (masks x m lx lm px pm p n) (base w u b g c d q y) t down_i down_j both = absurd (let z : kept (f x).shape.space (f m).shape.tree ≡ rows_of u = sym p ∙ (t ∙ q) in cc)

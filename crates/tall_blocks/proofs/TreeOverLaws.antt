@@ -1,41 +1,27 @@
 -- Over a block values with equal trees are equal, where neither has a fault, and behind it scans with equal trees have equal
 -- carries.
-use Rattle.std.specs.Prelude.{◌≡◌, refl, ℕ, zero, suc, ◌<◌, ◌+◌, Bool, true, false, None, Some, List, [], ◌∷◌, length, map, slice_get}
+use Rattle.std.specs.Prelude.{◌≡◌, refl, ℕ, zero, suc, ◌<◌, Bool, true, false, None, Some, List, [], ◌∷◌, map, slice_get}
 use Rattle.std.proofs.Common.{ap, sym, subst, ◌∙◌, arith, inl, inr}
-use Rattle.std.proofs.lemmas.List.{length-map}
 use Rattle.tall_value.specs.declared.class.Class.{Class}
 use Rattle.tall_value.specs.declared.functions.Scan.{Scan}
-use Rattle.tall_value.specs.Cells.{Seen, amount}
+use Rattle.tall_value.specs.Cells.{Seen}
 use Rattle.tall_value.specs.Classes.{kind_of}
 use Rattle.tall_semantics.specs.Operations.{Op, constant, unary, binary, filter, reduce, scan, head, tail, distinct, group, Made, stored, operation, Tree, column, leaf, one, two}
-use Rattle.tall_value.specs.declared.class.Kind.{Kind}
-use Rattle.tall_value.specs.declared.class.Kind.TheVariants.{Integer, Logical, Double, Text}
-use Rattle.tall_value.specs.declared.functions.Scan.TheVariants.{CumSum, CumMin, CumMax}
-use Rattle.tall_value.specs.declared.operators.Binary.{Binary}
-use Rattle.tall_value.specs.CellOperators.{binary_cell}
-use Rattle.tall_value.specs.Elementwise.{binary_rows, scalar_rows, beside}
-use Rattle.tall_value.specs.Filters as filters
-use Rattle.tall_value.specs.Reductions.{lesser, greater, or_fault}
-use Rattle.tall_value.specs.Scans.{integer_sums, bests}
-use Rattle.tall_semantics.specs.Equality.{same_space}
-use Rattle.tall_semantics.proofs.RowNumberLaws.{numbers, ok_rows, ok_inside, each_row_numbers, each_pair_numbers, integer_numbers, double_numbers, best_numbers, kept_numbers}
-use Rattle.tall_semantics.proofs.SpaceLaws.{num_one, num_rows, num_alone, common_is}
-use Rattle.tall_semantics.specs.Spaces.{Space, rows_of, kept, is_single}
+use Rattle.tall_semantics.specs.Spaces.{Space, is_single}
 use Rattle.tall_semantics.specs.Faults.{At, Fault, least_fault}
-use Rattle.tall_semantics.specs.Outcomes.{Outcome, rows, scalar, fault, fault_of, rows_in, cells_in, elementwise_two}
+use Rattle.tall_semantics.specs.Outcomes.{Outcome, rows, scalar, fault, fault_of, rows_in}
 use Rattle.tall_semantics.specs.RowsOfSpaces.{numbers_in}
-use Rattle.tall_semantics.specs.Shapes.{Shape, place_of, tree_over, common, masked}
+use Rattle.tall_semantics.specs.Shapes.{Shape, place_of, tree_over}
 use Rattle.tall_semantics.specs.Talls.{Tall, Columns, shapes, outcomes}
 use Rattle.tall_semantics.specs.Deferred.{Vertex, IsMeaning, IsOrdered, IsAmong, fault_in, least_in}
-use Rattle.tall_blocks.specs.Carries.{Rows, carry_after, or_zero, sums_from, scanned_from}
-use Rattle.tall_blocks.specs.Cut.{IsScalar, CanBeCut, AreCut, AreAligned}
+use Rattle.tall_blocks.specs.Carries.{carry_after, scanned_from}
+use Rattle.tall_blocks.specs.Cut.{IsScalar, CanBeCut, AreCut}
 use Rattle.tall_blocks.specs.ValuesOver.{carry_of, carry_at, next_carries, own_over, outcome_over, value_over, IsOver}
 use Rattle.tall_blocks.specs.Blocks.{IsVariable}
-use Rattle.tall_semantics.proofs.EqualityLaws.{spaces_decided}
 use Rattle.tall_semantics.proofs.OriginLaws.{get_before, below_among}
 use Rattle.tall_semantics.proofs.MeaningLaws.{stored_value, made_value, tall_shape, tree_value}
 use Rattle.tall_semantics.proofs.FaultLaws.{same_own, same_rows}
-use Rattle.tall_semantics.proofs.ShapeLaws.{place_ok, space_ok, shaped_is, placed_is, column_is, tested, inside}
+use Rattle.tall_semantics.proofs.ShapeLaws.{place_ok, shaped_is}
 use Rattle.tall_semantics.proofs.TreeLaws.{same_tall, two_at_most, not_column, one_shape}
 use Rattle.tall_semantics.proofs.OriginLaws.{none_or_some, faults_of_values}
 use Rattle.tall_blocks.proofs.Choices.{true_or_false}

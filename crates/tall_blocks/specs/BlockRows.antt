@@ -1,20 +1,16 @@
 -- Worked values over blocks. y = 1 ./ l fails at the 0 of the first block, and l = logical(x) only at the NaN of the
 -- second, so over all rows the fault of y is that of l, and no fault of its own.
-use Rattle.std.specs.Prelude.{◌≡◌, refl, ℕ, pos, false, true, Bool, Option, None, Some, List, [], ◌∷◌, map}
+use Rattle.std.specs.Prelude.{◌≡◌, refl, ℕ, pos, false, true, Option, None, Some, List, [], ◌∷◌, map}
 use Rattle.tall_value.specs.declared.faults.FaultKind.TheVariants.{Inexact, NanLogical}
 use Rattle.tall_value.specs.Columns.{numbered}
-use Rattle.tall_semantics.specs.Operations.{Tree, column}
-use Rattle.tall_value.specs.declared.class.Class.TheVariants as class
 use Rattle.tall_semantics.specs.Faults.{Fault, fault_at, least_fault}
 use Rattle.tall_semantics.specs.Outcomes.{Outcome, rows, scalar}
-use Rattle.tall_semantics.specs.Spaces.{Space, single, rows_of, kept, first}
 use Rattle.tall_semantics.specs.Talls.{tall}
 use Rattle.tall_semantics.specs.Deferred.{own_in}
 use Rattle.tall_semantics.specs.InOrder.{talls_from}
 use Rattle.tall_semantics.specs.Numbered.{levels_in}
 use Rattle.tall_semantics.specs.Samples.{at, doubles, number}
 use Rattle.tall_blocks.specs.Blocks.{all_rows}
-use Rattle.tall_blocks.specs.Cut.{in_store}
 use Rattle.tall_blocks.specs.PassWork.{cut_at}
 use Rattle.tall_blocks.specs.ValuesOver.{value_over, block_outcomes, rows_of_blocks}
 use Rattle.tall_blocks.specs.BlockSamples.{vertices, blocks, value, cut, start, over_first, behind_first, over_second}
@@ -65,13 +61,6 @@ unfolding tall talls_from
 sums_of_all = refl
 
 -- ---- what is cut
-
-abbrev mask : Tree
-mask = column 0 1 class.Logical
-
--- a filter keeps rows of its datastore; the first rows are none of its rows, and come to be known by a pass
-rows_of_store : map (in_store 3) (rows_of 3 ∷ rows_of 2 ∷ kept (rows_of 3) mask ∷ kept (kept (rows_of 3) mask) mask ∷ first 8 (rows_of 3) ∷ single ∷ []) ≡ true ∷ false ∷ true ∷ true ∷ false ∷ false ∷ []
-rows_of_store = refl
 
 abbrev places : List ℕ
 places = 0 ∷ 1 ∷ 2 ∷ 3 ∷ 4 ∷ []

@@ -1,6 +1,5 @@
 -- Blocks: the rows of the stored columns, in as many pieces as one likes. Nothing is said of how long a block is.
-use Rattle.std.specs.Prelude.{◌≡◌, ℕ, ◌<◌, ◌≤◌, Bool, true, Some, List, [], ◌∷◌, ◌++◌, map, slice_get}
-use Rattle.tall_value.specs.Cells.{Seen}
+use Rattle.std.specs.Prelude.{◌≡◌, ℕ, ◌<◌, ◌≤◌, Bool, true, Some, List, [], ◌∷◌, ◌++◌, slice_get}
 use Rattle.tall_semantics.specs.Operations.{Made, stored, operation}
 use Rattle.tall_semantics.specs.Outcomes.{rows}
 use Rattle.tall_semantics.specs.Talls.{Columns}

@@ -1,5 +1,5 @@
 -- Worked values of what reductions and methods keep of some cells, and of others behind them.
-use Rattle.std.specs.Prelude.{◌≡◌, refl, ℤ, pos, negsuc, true, false, Bool, Option, Some, None, Ok, Err, List, [], ◌∷◌, map}
+use Rattle.std.specs.Prelude.{◌≡◌, refl, ℤ, pos, negsuc, true, false, Some, Ok, Err, [], ◌∷◌, map}
 use Rattle.tall_value.specs.declared.class.IntKind.TheVariants.{Int8, Int16}
 use Rattle.tall_value.specs.declared.class.Kind.TheVariants.{Integer, Double}
 use Rattle.tall_value.specs.declared.faults.FaultKind.TheVariants.{Inexact, NoRows}
@@ -8,7 +8,7 @@ use Rattle.tall_value.specs.declared.functions.Reduction.TheVariants.{Sum, Min, 
 use Rattle.tall_value.specs.Cells.{Seen, whole, logical}
 use Rattle.tall_value.specs.Reductions.{lesser, is_nonzero}
 use Rattle.tall_semantics.specs.Samples.{number, nan}
-use Rattle.tall_blocks.specs.Folds.{exact_sum, least_cell, greatest_cell, some_true, all_true, number_of, value_of, best_joined, joined, by_parts, class_sum, start, more, used, fold_of, omits, reduction_result, method_fold, method_omits, method_result}
+use Rattle.tall_blocks.specs.Folds.{exact_sum, least_cell, greatest_cell, some_true, all_true, number_of, value_of, best_joined, joined, class_sum, start, more, used, fold_of, omits, reduction_result, method_fold, method_omits, method_result}
 
 abbrev small : ℤ → Seen
 small n = whole Int8 n

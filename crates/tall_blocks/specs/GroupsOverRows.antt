@@ -1,6 +1,6 @@
 -- Worked values of groups over some rows and then others: the keys 3, 1, 3, and then 1, NaN, with the data 10, 20, 30, and
 -- then 40, 50.
-use Rattle.std.specs.Prelude.{◌≡◌, refl, ℕ, ℤ, pos, false, Bool, Some, None, Ok, List, [], ◌∷◌, map}
+use Rattle.std.specs.Prelude.{◌≡◌, refl, ℤ, pos, false, Bool, List, [], ◌∷◌, map}
 use Rattle.tall_value.specs.declared.class.IntKind.TheVariants.{Int8}
 use Rattle.tall_value.specs.Cells.{Seen, whole}
 use Rattle.tall_semantics.specs.Samples.{number, nan}

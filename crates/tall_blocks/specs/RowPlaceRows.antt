@@ -1,5 +1,5 @@
 -- Worked places and numbers of rows: of the rows 3, 4, 7 a mask keeps 4 and 7.
-use Rattle.std.specs.Prelude.{◌≡◌, refl, pos, true, false, Ok, Err, List, [], ◌∷◌}
+use Rattle.std.specs.Prelude.{◌≡◌, refl, pos, true, false, Err, List, [], ◌∷◌}
 use Rattle.tall_value.specs.declared.faults.CellFault.TheVariants.{NotWhole}
 use Rattle.tall_value.specs.declared.operators.Binary.TheVariants.{Div}
 use Rattle.tall_value.specs.Cells.{Seen, logical}
