@@ -1,5 +1,5 @@
--- The values over a block exist, over no rows they have none, over all rows they are those of the definition, and the
--- faults of a block come before those behind it.
+-- Values over some rows: they exist and are the only ones, over no rows they have none, and over all rows they are those of
+-- the definition. A block and those behind it are parts of all rows, and a fault of the block precedes one behind it.
 use Rattle.std.specs.Prelude.{◌≡◌, refl, ℕ, zero, suc, ◌<◌, ◌≤◌, if◌then◌else◌, Bool, true, false, Option, None, Some, Ok, List, [], ◌∷◌, map, slice_get}
 use Rattle.std.proofs.Common.{ap, sym, subst, ◌∙◌, arith, inl, inr}
 use Rattle.tall_value.specs.Cells.{Seen}
@@ -13,39 +13,29 @@ use Rattle.tall_value.specs.declared.class.Kind.{Kind}
 use Rattle.tall_value.specs.declared.class.Kind.TheVariants.{Integer, Logical, Double, Text}
 use Rattle.tall_value.specs.declared.functions.Scan.TheVariants.{CumSum, CumMin, CumMax}
 use Rattle.tall_semantics.specs.Talls.{Tall, Columns, outcomes, own_outcome, unless}
-use Rattle.tall_semantics.specs.Least.{IsLeast}
 use Rattle.tall_semantics.specs.Numbered.{AreNumbered}
 use Rattle.tall_semantics.specs.Deferred.{Vertex, IsMeaning, AllBelow, IsOrdered, IsAmong, own_in, fault_in}
 use Rattle.tall_blocks.specs.Carries.{carry_after, scanned_from, scan_start}
-use Rattle.tall_blocks.specs.Blocks.{Block, block_columns, all_rows, IsVariable, AreBlocksOf, RowsBelow, RowsFrom, AreAscending}
+use Rattle.tall_blocks.specs.Blocks.{Block, block_columns, all_rows, IsVariable, RowsBelow, RowsFrom}
 use Rattle.tall_blocks.proofs.SeenLaws.{IsSplit}
 use Rattle.tall_blocks.specs.Cut.{CanBeCut, AreCut, IsCutWork}
-use Rattle.tall_blocks.specs.ValuesOver.{carry_of, carry_at, next_carries, own_over, outcome_over, value_over, IsOver, start_of, start_at, start_carries, outcome_at, outcomes_in, outcomes_over}
-use Rattle.tall_blocks.specs.SeenFaults.{AreSeen}
+use Rattle.tall_blocks.specs.ValuesOver.{carry_of, carry_at, next_carries, own_over, outcome_over, value_over, IsOver, outcome_at, outcomes_in, outcomes_over}
 use Rattle.tall_semantics.proofs.InOrderLaws.{same_values}
 use Rattle.tall_semantics.proofs.OriginLaws.{get_before, below_among, tall_outcome}
-use Rattle.tall_blocks.proofs.SeenLaws.{own_split, own_of, all_none, known_none, true_or_false, own_fault_number}
+use Rattle.tall_blocks.proofs.SeenLaws.{own_split, own_of, all_none, known_none, own_fault_number}
+use Rattle.tall_blocks.proofs.Choices.{true_or_false, if_true, if_false}
 use Rattle.tall_blocks.proofs.FaultRowLaws.{fault_holds, later_row}
 use Rattle.tall_blocks.proofs.RowLaws.{scan_begins}
 use Rattle.tall_semantics.proofs.Basics.{inside}
 use Rattle.tall_semantics.proofs.MeaningLaws.{stored_value, made_value}
-use Rattle.tall_blocks.proofs.LeastLaws.{least_joined}
 
--- ---- the values over a block
-
-if_true : {A : Type 0} (b : Bool) (x y : A) → b ≡ true → (if b then x else y) ≡ x
-if_true true x y h = refl
-if_true false x y h = absurd (cc)
-
-if_false : {A : Type 0} (b : Bool) (x y : A) → b ≡ false → (if b then x else y) ≡ y
-if_false true x y h = absurd (cc)
-if_false false x y h = refl
+-- ---- they exist
 
 module _ (columns : Columns) (carries : ℕ → Seen) (vs : List Vertex) (f : ℕ → Tall) (cut : ℕ → Bool) (ordered : IsOrdered vs) where
   abbrev O : ℕ → ℕ → Outcome
   O n i = outcomes_in columns carries vs f cut n i
 
-  -- more steps change nothing
+  -- so many steps as the place tells are enough, and further ones change nothing
   steps_at : (m n i : ℕ) (o : Option Vertex) → ((v : Vertex) → o ≡ Some v → AllBelow i v.args) → ((a : ℕ) → a < i → O m a ≡ O n a) → outcome_at columns carries f cut (O m) o i ≡ outcome_at columns carries f cut (O n) o i
   steps_at m n i None below same = refl
   steps_at m n i (Some v) below same =
@@ -157,7 +147,7 @@ module _ (vs : List Vertex) (f : ℕ → Tall) (cut : ℕ → Bool) (ordered : I
   scan_goes_on g carries i a v s e q r =
       ap (λ o. carry_at f g o (carries i)) e ∙ (ap (λ m. carry_of f g m v.args (carries i)) q ∙ ap (λ args. carry_of f g (operation (scan s)) args (carries i)) r)
 
-  -- a block and those behind it
+  -- the rows of a block and of those behind it
   pub split_at : (b : Block) (bs : List Block) (carries : ℕ → Seen) (g : ℕ → Outcome) → IsSplit (block_columns (all_rows (b ∷ bs))) (block_columns b) (block_columns (all_rows bs)) carries carries (next_carries vs f g carries) vs f cut g
   split_at b bs carries g = record {
     columns_split = λ i v s a e c q. (b s a, all_rows bs s a, refl, refl, refl);
@@ -168,7 +158,7 @@ module _ (vs : List Vertex) (f : ℕ → Tall) (cut : ℕ → Bool) (ordered : I
 -- ---- block by block
 
 module _ (vs : List Vertex) (f : ℕ → Tall) (cut : ℕ → Bool) (P : ℕ → Type 0) (ordered : IsOrdered vs) (can : AreCut f cut vs) (numbered : AreNumbered vs) (work : IsCutWork vs cut P) where
-  -- a fault of a block is before those of the blocks behind it
+  -- by row numbers: the same value's fault behind the block doesn't precede the one in the block
   pub in_order : (b : Block) (bs : List Block) (carries carries_rest : ℕ → Seen) (g k : ℕ → Outcome) → IsOver (block_columns b) carries vs f cut g → IsOver (block_columns (all_rows bs)) carries_rest vs f cut k → (m : ℕ) → RowsBelow m b → RowsFrom m (all_rows bs)
       → (i : ℕ) (x y : Fault) → P i → own_in vs (value_over f g) i ≡ Some x → own_in vs (value_over f k) i ≡ Some y → precedes y x ≡ false
   in_order b bs carries carries_rest g k over_block over_rest m before from i x y p seen later =
@@ -184,7 +174,7 @@ module _ (vs : List Vertex) (f : ℕ → Tall) (cut : ℕ → Bool) (P : ℕ →
       let high : m ≤ s.0 = s.2 in
       later_row x y r.0 s.0 (nx ∙ (ap (λ (v : Vertex). v.at.number) same ∙ sym ny)) r.1 s.1 (omega (arith, low, high))
 
--- ---- over all rows the values are those of the definition
+-- ---- over all rows
 
 module _ (columns : Columns) (vs : List Vertex) (f : ℕ → Tall) (cut : ℕ → Bool) (meaning : IsMeaning columns vs f) (can : AreCut f cut vs) where
   abbrev W : ℕ → Outcome

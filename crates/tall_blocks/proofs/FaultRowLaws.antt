@@ -1,4 +1,5 @@
--- The rows and the fault's row of a value over some rows are among these rows.
+-- A value over some rows has numbers of these rows alone, and so has its fault: whatever holds of the numbers of the
+-- variables' rows holds of its own.
 use Rattle.std.specs.Prelude.{◌≡◌, refl, ℤ, ℕ, zero, suc, ◌<◌, ◌+◌, if◌then◌else◌, Bool, true, false, Option, None, Some, Result, Ok, Err, List, [], ◌∷◌, map, slice_get}
 use Rattle.std.proofs.Common.{ap, sym, subst, ◌∙◌, arith, inl, inr}
 use Rattle.std.specs.declared.cmp.Ordering.{Ordering}
@@ -31,14 +32,15 @@ use Rattle.tall_blocks.specs.Blocks.{IsVariable, AllNumbers}
 use Rattle.tall_blocks.specs.Cut.{CanBeCut, AreCut}
 use Rattle.tall_blocks.specs.ValuesOver.{own_over, outcome_over, value_over, IsOver}
 use Rattle.tall_semantics.proofs.OriginLaws.{none_or_some, get_before, below_among, least_one, faults_of_values}
-use Rattle.tall_blocks.proofs.SeenLaws.{true_or_false, known_none, own_of, made_is}
+use Rattle.tall_blocks.proofs.Choices.{true_or_false}
+use Rattle.tall_blocks.proofs.SeenLaws.{known_none, own_of, made_is}
 
 module _ (Q : ℕ → Type 0) where
   abbrev HoldIn : RowsOrFault → Type 0
   HoldIn (Ok rs) = AllNumbers Q rs
   HoldIn (Err e) = Q e.0
 
-  -- a column whose rows all have Q, or a fault at a row that has it
+  -- Q holds of the numbers of the rows, or of that of the fault's row
   abbrev pub Holds : Outcome → Type 0
   Holds (rows rs) = AllNumbers Q rs
   Holds (scalar c) = ⊥
@@ -195,7 +197,7 @@ module _ (Q : ℕ → Type 0) where
     pub fault_holds : (i : ℕ) (v : Vertex) (x : Fault) → slice_get vs i ≡ Some v → cut i ≡ true → fault_of (h i) ≡ Some x → (r : ℕ) × (x.row ≡ Some r) × Q r
     fault_holds i v x e c y = subst Holds (fault_is (h i) x y) (value_holds i v e c)
 
--- ---- a fault at a later row
+-- ---- faults of one expression go by rows
 
 second_first : (a b c d : ℕ) (r : Ordering) → a ≡ b → d < c → is_lt (ordering_then (nat_cmp a b) (ordering_then (nat_cmp c d) r)) ≡ false
 second_first a b c d r e h = grind (arith, nat_tests)

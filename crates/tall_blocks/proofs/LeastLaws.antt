@@ -1,4 +1,6 @@
--- The least own fault over a block and the rows behind it is the earlier of the least own faults seen in both.
+-- The least own fault over a block and the rows behind it is the earlier of the two that are seen in the block and behind
+-- it. A fault that is seen need not be an own fault over all rows; but what it is hidden by is a fault of what the value
+-- depends on, which has a lesser number, so under the earliest seen there is none.
 use Rattle.std.specs.Prelude.{if◌then◌else◌, ◌≡◌, refl, ◌≢◌, ℕ, suc, ◌<◌, ◌≤◌, ◌⊎◌, Bool, true, false, Option, None, Some, List, slice_get}
 use Rattle.std.proofs.Common.{ap, sym, subst, ◌∙◌, arith, inl, inr}
 use Rattle.tall_value.specs.Cells.{Seen}
@@ -12,13 +14,14 @@ use Rattle.tall_semantics.specs.Deferred.{Vertex, IsOrdered, IsAmong, DependsOn,
 use Rattle.tall_blocks.specs.Blocks.{IsVariable}
 use Rattle.tall_blocks.specs.Cut.{CanBeCut, AreCut, AreAligned, IsCutWork}
 use Rattle.tall_blocks.specs.ValuesOver.{value_over, IsOver}
-use Rattle.tall_blocks.proofs.SeenLaws.{IsSplit, all_none, true_or_false, fault_joined, front_fault, back_fault, own_split, own_made, known_none, origin, can_fail, own_fault_number, operands_none, joined_at, stored_parts, operand_parts}
+use Rattle.tall_blocks.proofs.Choices.{true_or_false}
+use Rattle.tall_blocks.proofs.SeenLaws.{IsSplit, all_none, fault_joined, front_fault, back_fault, own_split, own_made, known_none, origin, can_fail, own_fault_number, operands_none, joined_at, stored_parts, operand_parts}
 use Rattle.tall_semantics.proofs.Basics.{inside}
 use Rattle.tall_semantics.proofs.LevelLaws.{compare}
 use Rattle.tall_semantics.proofs.OrderLaws.{by_number, not_before, at_most_left, at_most_right}
 use Rattle.tall_semantics.proofs.OriginLaws.{none_or_some, get_before, below_among, least_one}
 
--- ---- numbers of what a value depends on
+-- ---- what a value depends on stands before it, and has no greater number
 
 path_place : (vs : List Vertex) → IsOrdered vs → (a j : ℕ) → DependsOn vs a j → j ≤ a
 path_place vs ordered a j (itself i) = omega (arith)
@@ -45,7 +48,7 @@ pub no_group : (f : ℕ → Tall) (cut : ℕ → Bool) (m n : Made) (args : List
 no_group f cut (operation (group m p)) n args can h = can
 no_group f cut m n args can h = h
 
--- a value that fails and an operand's that does have unequal numbers
+-- of two values that fail, one of which depends on the other, the numbers are unequal
 less_number : (f : ℕ → Tall) (cut : ℕ → Bool) (vs : List Vertex) → IsOrdered vs → AreNumbered vs → (i a j : ℕ) (v w : Vertex) → slice_get vs i ≡ Some v → slice_get vs j ≡ Some w → IsAmong v.args a → DependsOn vs a j
     → CanBeCut f cut v.made v.args → (never_fails v.made ≡ true → ⊥) → (never_fails w.made ≡ true → ⊥) → w.at.number < v.at.number
 less_number f cut vs ordered numbered i a j v w e g among path can fails fails2 =
@@ -92,7 +95,7 @@ beaten : (c : Option Fault) (x z : Fault) → AtMost c z → Goes c x → preced
 beaten None x z m g p = m
 beaten (Some y) x z m g p = (let q : precedes x y ≡ false = not_before y z x m p in cc)
 
--- ---- the law
+-- ---- a block and the rows behind it
 
 module _ {columns block rest : Columns} {carries carries_block carries_rest : ℕ → Seen} {vs : List Vertex} {f : ℕ → Tall} {cut : ℕ → Bool} {h g k : ℕ → Outcome}
     (over : IsOver columns carries vs f cut h) (over_block : IsOver block carries_block vs f cut g) (over_rest : IsOver rest carries_rest vs f cut k)
@@ -116,7 +119,7 @@ module _ {columns block rest : Columns} {carries carries_block carries_rest : �
   free_rest : (i : ℕ) (v : Vertex) (s a : ℕ) → slice_get vs i ≡ Some v → cut i ≡ true → IsVariable v.made s a → fault_of (rest s a) ≡ None
   free_rest i v s a e c q = ap fault_of (split.columns_split i v s a e c q).4
 
-  -- an own fault is seen in the block, or behind it
+  -- an own fault over all rows is seen in the block or behind it
   seen_made : (i : ℕ) (v : Vertex) (m : Made) (x : Fault) → slice_get vs i ≡ Some v → cut i ≡ true → v.made ≡ m → least_in H v.args ≡ None → fault_of (h i) ≡ Some x → (own_in vs G i ≡ Some x) ⊎ (own_in vs K i ≡ Some x)
   seen_made i v (stored s a class) x e c q n y =
       let p = stored_parts over over_block over_rest ordered can aligned split i v s a class e c q in
@@ -134,7 +137,7 @@ module _ {columns block rest : Columns} {carries carries_block carries_rest : �
   pub own_seen : (i : ℕ) (x : Fault) → cut i ≡ true → own_in vs H i ≡ Some x → (own_in vs G i ≡ Some x) ⊎ (own_in vs K i ≡ Some x)
   own_seen i x c own = (let w = own_split H (slice_get vs i) i x own in seen_made i w.0 w.0.made x w.1 c refl w.2 w.3)
 
-  -- a fault seen in the block is the value's own where no operand has a fault over all rows
+  -- conversely, where no operand has a fault over all rows, one seen in the block is the value's own
   block_own : (i : ℕ) (v : Vertex) (m : Made) (x : Fault) → slice_get vs i ≡ Some v → cut i ≡ true → v.made ≡ m → least_in H v.args ≡ None → fault_of (g i) ≡ Some x → own_in vs H i ≡ Some x
   block_own i v (stored s a class) x e c q n y =
       let p = stored_parts over over_block over_rest ordered can aligned split i v s a class e c q in
@@ -145,7 +148,7 @@ module _ {columns block rest : Columns} {carries carries_block carries_rest : �
       let j = joined_at over over_block over_rest ordered can aligned split i v op e c q parts in
       own_made H (slice_get vs i) v i x e n (front_fault (h i) (g i) (k i) x j y)
 
-  -- and one seen behind the block, unless one is seen in the block
+  -- and so is one seen behind it, or else one is seen in the block
   rest_own : (i : ℕ) (v : Vertex) (m : Made) (x : Fault) → slice_get vs i ≡ Some v → cut i ≡ true → v.made ≡ m → least_in H v.args ≡ None → fault_of (k i) ≡ Some x → (own_in vs H i ≡ Some x) ⊎ ((z : Fault) × (own_in vs G i ≡ Some z))
   rest_own i v (stored s a class) x e c q n y =
       let p = stored_parts over over_block over_rest ordered can aligned split i v s a class e c q in
@@ -168,7 +171,7 @@ module _ {columns block rest : Columns} {carries carries_block carries_rest : �
       | inr back ↦ at_most_right c d y (least_rest.least i y p back)
     ]
 
-    -- under the least fault seen no operand has a fault
+    -- where the earliest fault is seen no operand has a fault over all rows
     operands_free : (i : ℕ) (v : Vertex) (x : Fault) → P i → slice_get vs i ≡ Some v → earlier c d ≡ Some x → x.number ≡ v.at.number → (never_fails v.made ≡ true → ⊥) → least_in H v.args ≡ None
     operands_free i v x p e q n fails = elim (none_or_some (least_in H v.args)) [
       | inl none ↦ none

@@ -1,3 +1,4 @@
+pub mod Choices
 pub mod RowLaws
 pub mod OperationLaws
 pub mod SeenLaws
@@ -8,3 +9,11 @@ pub mod CutLaws
 pub mod TreeOverLaws
 pub mod SpaceLaws
 pub mod PassLaws
+pub mod FoldLaws
+pub mod EndLaws
+pub mod DistinctLaws
+pub mod GroupLaws
+pub mod PassWorkLaws
+pub mod SampleLaws
+pub mod BlockFoldLaws
+pub mod RowPlaceLaws

@@ -1,4 +1,5 @@
--- A value over a block and the rows behind it is that over the block, outcomes_joined by that over the rows behind it.
+-- An operation over operands that have the rows of two parts: its outcome is that over the first part, and then that over
+-- the second.
 use Rattle.std.specs.Prelude.{◌≡◌, refl, ℕ, Bool, true, false, Ok, Err, List, [], ◌∷◌, ◌++◌, length, map}
 use Rattle.std.proofs.Common.{ap, sym, subst, ◌∙◌, inl, inr}
 use Rattle.std.proofs.lemmas.List.{map-append, length-map}
@@ -20,9 +21,9 @@ use Rattle.tall_blocks.specs.Cut.{CanBeCut}
 use Rattle.tall_blocks.specs.ValuesOver.{own_over, value_over, AreParts}
 use Rattle.tall_blocks.proofs.RowLaws.{outcomes_joined, by_row, each_row_then, each_pair_then, kept_then, scan_then}
 
--- ---- one operation
+-- ---- outcomes of columns
 
--- a value with rows, or a fault
+-- it has rows or a fault, and is no scalar
 abbrev pub IsColumn : Outcome → Type 0
 IsColumn (rows rs) = Unit {0}
 IsColumn (scalar c) = ⊥
@@ -32,7 +33,7 @@ rows_column : (at : At) (r : RowsOrFault) → IsColumn (row_by_row at r)
 rows_column at (Ok rs) = tt
 rows_column at (Err e) = tt
 
--- x is y, and then z
+-- x is what y and then z give
 pub record Joined (x y z : Outcome) : Type 0 where
   pub joined : x ≡ outcomes_joined y z
   pub front : IsColumn y
@@ -41,7 +42,7 @@ pub record Joined (x y z : Outcome) : Type 0 where
 join_rows : (at : At) (x y z : RowsOrFault) → x ≡ rows_joined y z → Joined (row_by_row at x) (row_by_row at y) (row_by_row at z)
 join_rows at x y z e = record { joined = ap (row_by_row at) e ∙ by_row at y z; front = rows_column at y; back = rows_column at z }
 
--- functions of an operand that is cut, of two, and of one beside a scalar
+-- a function of one operand with two parts, of two such operands, and of one beside a scalar
 join_one : (F G H : Outcome → Outcome) (x y z : Outcome) → ((rs ss : Rows) → y ≡ rows rs → Joined (F (rows (rs ++ ss))) (G (rows rs)) (H (rows ss))) → AreParts x y z → Joined (F x) (G y) (H z)
 join_one F G H x y z law p =
     let a : Joined (F (rows (p.0 ++ p.1))) (G (rows p.0)) (H (rows p.1)) = law p.0 p.1 p.3 in
@@ -71,7 +72,7 @@ kept_cells rs ss ms ns e =
 abbrev masked_rows : Outcome → Outcome → Outcome
 masked_rows x m = rows (kept (rows_in x) (cells_in m))
 
--- an operation over operands that are joined
+-- ---- by the operation; over both parts the outcomes are h, over the first g, over the second k
 module _ (f : ℕ → Tall) (cut : ℕ → Bool) (h g k : ℕ → Outcome) where
   abbrev PartsAt : ℕ → Type 0
   PartsAt a = AreParts (h a) (g a) (k a)

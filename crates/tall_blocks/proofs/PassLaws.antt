@@ -1,43 +1,35 @@
 -- A pass over the blocks of a datastore: the least fault seen block by block is the least own fault, and a value without a
 -- fault has its rows of each block in order.
-use Rattle.std.specs.Prelude.{◌≡◌, refl, ℕ, Bool, true, false, Option, None, Some, List, [], ◌∷◌, ◌++◌, map, slice_get}
-use Rattle.std.proofs.Common.{ap, sym, subst, ◌∙◌, inl, inr}
+use Rattle.std.specs.Prelude.{◌≡◌, refl, ℕ, Bool, true, Option, None, Some, List, [], ◌∷◌, ◌++◌, length, map, slice_get}
+use Rattle.std.proofs.Common.{ap, sym, subst, ◌∙◌, inl}
+use Rattle.std.proofs.lemmas.List.{length-map}
 use Rattle.tall_value.specs.Cells.{Seen}
 use Rattle.tall_value.specs.Classes.{kind_of}
-use Rattle.tall_semantics.specs.Operations.{Op, constant, unary, binary, filter, reduce, scan, head, tail, distinct, group, Made, stored, operation, column}
-use Rattle.tall_semantics.specs.Spaces.{Space, single, rows_of, kept, first, last, groups, is_single}
-use Rattle.tall_semantics.specs.Spaces as spaces
+use Rattle.tall_semantics.specs.Operations.{Op, constant, unary, binary, filter, reduce, scan, head, tail, distinct, group, Made, stored, operation}
+use Rattle.tall_semantics.specs.Spaces.{is_single}
 use Rattle.tall_semantics.specs.Faults.{Fault, least_fault}
-use Rattle.tall_semantics.specs.Outcomes.{Outcome, rows, scalar, fault_of, rows_in}
+use Rattle.tall_semantics.specs.Outcomes.{Outcome, rows, fault_of, rows_in}
 use Rattle.tall_semantics.specs.Shapes.{Shape, tree_over}
 use Rattle.tall_semantics.specs.Talls.{Tall, Columns, shapes}
-use Rattle.tall_semantics.specs.Deferred.{Vertex, IsAmong, IsOrdered, own_in, fault_in}
+use Rattle.tall_semantics.specs.Deferred.{Vertex, IsAmong, own_in, fault_in}
 use Rattle.tall_semantics.specs.Least.{IsLeast}
-use Rattle.tall_semantics.specs.RowsOfSpaces.{Fits}
+use Rattle.tall_semantics.specs.RowsOfSpaces.{Fits, numbers_in}
 use Rattle.tall_semantics.proofs.OriginLaws.{get_before, below_among}
 use Rattle.tall_semantics.proofs.MeaningLaws.{stored_value, tree_value}
 use Rattle.tall_semantics.proofs.SpaceLaws.{value_fits}
 use Rattle.tall_semantics.proofs.TreeLaws.{not_column, one_shape, one_value}
-use Rattle.tall_blocks.specs.Carries.{Rows, scan_start}
-use Rattle.tall_blocks.specs.Blocks.{Block, block_columns, all_rows, IsTable, AreTables, AreAscending, AreBlocksOf, IsVariable}
-use Rattle.tall_blocks.specs.Cut.{IsScalar, AreCut, AreAligned, IsCutWork, in_store, AreOfStore}
+use Rattle.tall_blocks.specs.Carries.{scan_start}
+use Rattle.tall_blocks.specs.Blocks.{Block, block_columns, all_rows, IsTable, AreTables, AreAscending}
+use Rattle.tall_blocks.specs.Cut.{IsScalar, AreCut, AreAligned, IsCutWork}
 use Rattle.tall_blocks.specs.ValuesOver.{value_over, IsOver, AreParts, start_of, start_at, start_carries, next_carries, outcomes_over, block_outcomes, rows_of_blocks}
-use Rattle.tall_blocks.specs.SeenFaults.{AreSeen, IsPass}
+use Rattle.tall_blocks.specs.SeenFaults.{AreSeen, IsBlockwise}
 use Rattle.tall_blocks.proofs.BlockLaws.{over_exists, empty_rows, no_own_fault, split_at, in_order, whole_over, over_others}
-use Rattle.tall_blocks.proofs.CutLaws.{are_cut}
+use Rattle.tall_blocks.specs.FoldsOfBlocks.{AreAsLong}
+use Rattle.tall_blocks.proofs.CutLaws.{not_single, are_cut}
 use Rattle.tall_blocks.proofs.LeastLaws.{least_joined}
-use Rattle.tall_blocks.proofs.SeenLaws.{IsSplit, value_parts}
-use Rattle.tall_blocks.proofs.SpaceLaws.{aligned}
+use Rattle.tall_blocks.proofs.SeenLaws.{value_parts}
+use Rattle.tall_blocks.proofs.SpaceLaws.{aligned, space_numbers}
 use Rattle.tall_blocks.proofs.TreeOverLaws.{AreOfSpaces, op_in, first_in, next_carry}
-
-not_single : (s : ℕ) (u : Space) → in_store s u ≡ true → is_single u ≡ false
-not_single s single e = absurd (cc)
-not_single s (rows_of t) e = refl
-not_single s (kept u t) e = refl
-not_single s (first k u) e = refl
-not_single s (last k u) e = refl
-not_single s (spaces.distinct t) e = refl
-not_single s (groups m k d) e = refl
 
 op_of : (d op : Op) (xs : List Shape) → op_in d (tree_over op xs) ≡ op
 op_of d op [] = refl
@@ -70,7 +62,10 @@ module _ (f : ℕ → Tall) where
 scalar_single : (s : Shape) (x : Outcome) → IsScalar x → Fits s x → is_single s.space ≡ true
 scalar_single s x c fits = subst (Fits s) c.1 fits
 
-module _ (columns : Columns) (of_stores : ℕ → List ℕ) (vs : List Vertex) (f : ℕ → Tall) (store : ℕ) (cut : ℕ → Bool) (bs : List Block) (pass : IsPass columns of_stores vs f store cut bs) where
+same_length : (x y : Outcome) → numbers_in x ≡ numbers_in y → length (rows_in x) ≡ length (rows_in y)
+same_length x y e = sym (length-map (rows_in x) (λ (r : ℕ × Seen). r.0)) ∙ (ap length e ∙ length-map (rows_in y) (λ (r : ℕ × Seen). r.0))
+
+module _ (columns : Columns) (of_stores : ℕ → List ℕ) (vs : List Vertex) (f : ℕ → Tall) (store : ℕ) (cut : ℕ → Bool) (bs : List Block) (pass : IsBlockwise columns of_stores vs f store cut bs) where
   can : AreCut f cut vs
   can = are_cut columns vs f cut store pass.meaning pass.of_store
 
@@ -159,3 +154,25 @@ module _ (columns : Columns) (of_stores : ℕ → List ℕ) (vs : List Vertex) (
 
   pub rows_of_value : (i : ℕ) (v : Vertex) → slice_get vs i ≡ Some v → cut i ≡ true → fault_in f i ≡ None → (f i).outcome ≡ rows (rows_of_blocks (block_outcomes vs f cut (start_carries vs f) bs) i)
   rows_of_value i v e c none = rows_over bs (start_carries vs f) pass.tables start_one (λ j. (f j).outcome) whole i v e c none
+
+  -- ---- of one space
+
+  -- two values of one space have equally many rows in each block
+  long_over : (rest : List Block) (carries : ℕ → Seen) → AreTables vs cut rest → OneCarry carries → (h : ℕ → Outcome) → IsOver (block_columns (all_rows rest)) carries vs f cut h
+      → (i j : ℕ) (v w : Vertex) → slice_get vs i ≡ Some v → slice_get vs j ≡ Some w → cut i ≡ true → cut j ≡ true → (f i).shape.space ≡ (f j).shape.space → fault_of (h i) ≡ None → fault_of (h j) ≡ None → AreAsLong (block_outcomes vs f cut carries rest) i j
+  long_over [] carries tables one h over i j v w e d ci cj space ni nj = tt
+  long_over (b ∷ rest) carries tables one h over i j v w e d ci cj space ni nj =
+      let g : ℕ → Outcome = outcomes_over (block_columns b) carries vs f cut in
+      let over_block : IsOver (block_columns b) carries vs f cut g = over_exists (block_columns b) carries vs f cut pass.ordered in
+      let behind : ℕ → Seen = next_carries vs f g carries in
+      let k : ℕ → Outcome = outcomes_over (block_columns (all_rows rest)) behind vs f cut in
+      let over_rest : IsOver (block_columns (all_rows rest)) behind vs f cut k = over_exists (block_columns (all_rows rest)) behind vs f cut pass.ordered in
+      let even = aligned_over b carries g tables.0 one over_block in
+      let p : AreParts (h i) (g i) (k i) = value_parts over over_block over_rest pass.ordered can even (split_at vs f cut pass.ordered can b rest carries g) i v e ci (inl ni) in
+      let q : AreParts (h j) (g j) (k j) = value_parts over over_block over_rest pass.ordered can even (split_at vs f cut pass.ordered can b rest carries g) j w d cj (inl nj) in
+      let n : numbers_in (g i) ≡ numbers_in (g j) = space_numbers columns pass.meaning pass.ordered over_block can (of_spaces b carries tables.0 one) i j v w e d ci cj (ap fault_of p.3) (ap fault_of q.3) space in
+      (same_length (g i) (g j) n, long_over rest behind tables.1 (next_one b carries g tables.0 one over_block) k over_rest i j v w e d ci cj space (ap fault_of p.4) (ap fault_of q.4))
+
+  pub long_values : (i j : ℕ) (v w : Vertex) → slice_get vs i ≡ Some v → slice_get vs j ≡ Some w → cut i ≡ true → cut j ≡ true → (f i).shape.space ≡ (f j).shape.space → fault_in f i ≡ None → fault_in f j ≡ None
+      → AreAsLong (block_outcomes vs f cut (start_carries vs f) bs) i j
+  long_values i j v w e d ci cj space ni nj = long_over bs (start_carries vs f) pass.tables start_one (λ a. (f a).outcome) whole i j v w e d ci cj space ni nj

@@ -66,7 +66,7 @@ kept_then (r ∷ rs) ss (m ∷ ms) ns e = ap (λ xs. if is_true m then r ∷ xs 
 
 -- ---- scans
 
--- the sum in the class after some rows
+-- the sum so far, in the class
 sum_after : IntKind → ℤ → Rows → ℤ
 sum_after k sum [] = sum
 sum_after k sum (r ∷ rs) = sum_after k (added k sum (amount r.1)) rs
@@ -110,13 +110,13 @@ sums_then Logical c rs ss = double_then (amount c) c rs ss refl
 sums_then Double c rs ss = double_then (amount c) c rs ss refl
 sums_then Text c rs ss = double_then (amount c) c rs ss refl
 
--- a scan over a block and the rows behind it goes on from the block's last cell
+-- behind some rows a scan goes on from its last cell
 pub scan_then : (s : Scan) (a : Kind) (c : Seen) (rs ss : Rows) → scanned_from s a c (rs ++ ss) ≡ rows_joined (scanned_from s a c rs) (scanned_from s a (carry_after s a c rs) ss)
 scan_then CumSum a c rs ss = sums_then a c rs ss
 scan_then CumMin a c rs ss = ap Ok (bests_then lesser c rs ss)
 scan_then CumMax a c rs ss = ap Ok (bests_then greater c rs ss)
 
--- from its start a scan is that of the definition
+-- from the start on it is the definition's
 sums_start : (a : Kind) (rs : Rows) → sums_from a (scan_start CumSum a) rs ≡ sums a rs
 sums_start (Integer k) rs = refl
 sums_start Logical rs = refl

@@ -1,4 +1,5 @@
--- Faults over a block and the rows behind it: no fault at all where there is none in either, and the least own fault.
+-- Faults over some rows, and over a block and the rows behind it: a value has none over all these rows exactly where it has
+-- none in the block and none behind it.
 use Rattle.std.specs.Prelude.{◌≡◌, refl, ℕ, zero, suc, ◌<◌, ◌⊎◌, Bool, true, false, Option, None, Some, List, [], ◌∷◌, map, slice_get}
 use Rattle.std.proofs.Common.{ap, sym, subst, ◌∙◌, arith, inl, inr}
 use Rattle.tall_value.specs.Cells.{Seen}
@@ -13,6 +14,7 @@ use Rattle.tall_blocks.specs.Carries.{scanned_from, carry_after}
 use Rattle.tall_blocks.specs.Blocks.{IsVariable}
 use Rattle.tall_blocks.specs.Cut.{IsScalar, CanBeCut, AreCut, AreAligned, IsCutWork}
 use Rattle.tall_blocks.specs.ValuesOver.{own_over, outcome_over, value_over, IsOver, AreParts}
+use Rattle.tall_blocks.proofs.Choices.{true_or_false}
 use Rattle.tall_blocks.proofs.RowLaws.{outcomes_joined}
 use Rattle.tall_blocks.proofs.OperationLaws.{IsColumn, Joined, own_joined}
 use Rattle.tall_value.specs.declared.class.Class.{Class}
@@ -47,11 +49,7 @@ unless_some : (c : Option Fault) (y : Fault) (x : Outcome) → c ≡ Some y → 
 unless_some None y x h = absurd (cc)
 unless_some (Some z) y x h = h
 
-pub true_or_false : (b : Bool) → (b ≡ true) ⊎ (b ≡ false)
-true_or_false true = inl refl
-true_or_false false = inr refl
-
--- ---- outcomes that follow one another
+-- ---- outcomes that join
 
 none_front : (x y z : Outcome) → x ≡ outcomes_joined y z → IsColumn y → fault_of x ≡ None → fault_of y ≡ None
 none_front x (rows rs) z e c n = refl
@@ -75,7 +73,7 @@ parts_of x (fault f) z j m n = absurd (cc)
 fault_parts : (x y z : Outcome) → AreParts x y z → (fault_of x ≡ None) × (fault_of y ≡ None) × (fault_of z ≡ None)
 fault_parts x y z p = (ap fault_of p.2, ap fault_of p.3, ap fault_of p.4)
 
--- the fault of what follows one another is that of the front, or of the back behind a front without one
+-- the fault of two parts is that of the first, or that of the second behind a first without one
 pub fault_joined : (x y z : Outcome) (f : Fault) → Joined x y z → fault_of x ≡ Some f → (fault_of y ≡ Some f) ⊎ ((fault_of y ≡ None) × (fault_of z ≡ Some f))
 fault_joined x (rows rs) (rows ss) f j h = absurd (let q : fault_of x ≡ None = ap fault_of j.joined in cc)
 fault_joined x (rows rs) (scalar s) f j h = absurd j.back
@@ -95,7 +93,7 @@ back_fault x (rows rs) (fault g) f j n h = ap fault_of j.joined ∙ h
 back_fault x (scalar s) z f j n h = absurd j.front
 back_fault x (fault g) z f j n h = absurd (cc)
 
--- ---- operands that are known
+-- ---- an operand that isn't cut is a known scalar
 
 pub known_scalar : (f : ℕ → Tall) (cut : ℕ → Bool) (made : Made) (args : List ℕ) (a : ℕ) → CanBeCut f cut made args → IsAmong args a → cut a ≡ false → IsScalar (f a).outcome
 known_scalar f cut (stored s v c) args a can i n = absurd (subst (λ xs. IsAmong xs a) can i)
@@ -129,7 +127,8 @@ known_scalar f cut (operation (group m part)) args a can i n = absurd can
 scalar_none : (x : Outcome) → IsScalar x → fault_of x ≡ None
 scalar_none x s = ap fault_of s.1
 
--- what an own fault is
+-- ---- own faults
+
 pub own_split : (f : ℕ → Tall) (o : Option Vertex) (i : ℕ) (x : Fault) → own_at f o i ≡ Some x → (v : Vertex) × (o ≡ Some v) × (least_in f v.args ≡ None) × (fault_in f i ≡ Some x)
 own_split f None i x h = absurd (cc)
 own_split f (Some v) i x h = (let p = own_is (least_in f v.args) (fault_in f i) x h in (v, refl, p.0, p.1))
@@ -179,7 +178,7 @@ module _ {columns : Columns} {carries : ℕ → Seen} {vs : List Vertex} {f : �
   pub known_none : (i a : ℕ) (v : Vertex) → slice_get vs i ≡ Some v → cut i ≡ true → IsAmong v.args a → cut a ≡ false → fault_of (h a) ≡ None
   known_none i a v e c among n = ap fault_of (over.known a n) ∙ scalar_none (f a).outcome (known_scalar f cut v.made v.args a (can i v e c) among n)
 
-  -- a fault is an own fault of one under it
+  -- each fault is the own fault of a value that it comes from
   pub origin : IsOrdered vs → (P : ℕ → Type 0) → IsCutWork vs cut P → (n i : ℕ) (v : Vertex) (x : Fault) → i < n → slice_get vs i ≡ Some v → P i → fault_of (h i) ≡ Some x
       → (j : ℕ) × DependsOn vs i j × P j × (own_in vs (value_over f h) j ≡ Some x)
   origin ordered P work zero i v x l e c q = absurd (omega (arith, l))
@@ -199,7 +198,7 @@ module _ {columns : Columns} {carries : ℕ → Seen} {vs : List Vertex} {f : �
         ]
   ]
 
-  -- what never fails has no own fault
+  -- filters have no fault of their own
   pub can_fail : (i : ℕ) (v : Vertex) (m : Made) (x : Fault) → slice_get vs i ≡ Some v → cut i ≡ true → v.made ≡ m → least_in (value_over f h) v.args ≡ None → fault_of (h i) ≡ Some x → never_fails m ≡ true → ⊥
   can_fail i v (operation filter) x e c q n y t =
       let z : fault_of (h i) ≡ None = ap fault_of (own_of i v filter e c q n) ∙ no_own v.at filter (map (value_over f h) v.args) refl in
@@ -211,7 +210,7 @@ module _ {columns : Columns} {carries : ℕ → Seen} {vs : List Vertex} {f : �
   can_fail i v (operation distinct) x e c q n y t = subst (λ m. CanBeCut f cut m v.args) q (can i v e c)
   can_fail i v m x e c q n y t = absurd (cc)
 
-  -- an own fault has its vertex's number, where the stored columns have no fault
+  -- an own fault has the number of the expression, where no variable has a reading fault
   pub own_fault_number : ((i : ℕ) (v : Vertex) (s a : ℕ) → slice_get vs i ≡ Some v → cut i ≡ true → IsVariable v.made s a → fault_of (columns s a) ≡ None)
       → (i : ℕ) (v : Vertex) (m : Made) (x : Fault) → slice_get vs i ≡ Some v → cut i ≡ true → v.made ≡ m → least_in (value_over f h) v.args ≡ None → fault_of (h i) ≡ Some x → x.number ≡ v.at.number
   own_fault_number free i v (stored s a k) x e c q n y =
@@ -250,7 +249,7 @@ module _ {columns block rest : Columns} {carries carries_block carries_rest : �
         (known_none over can i a v e c among not_cut, known_none over_block can i a v e c among not_cut, known_none over_rest can i a v e c among not_cut)
   ]
 
-  -- over operands that are parts the operation's outcomes follow one another
+  -- where the operands have the rows of both parts, so has the outcome, or a fault
   pub joined_at : (i : ℕ) (v : Vertex) (op : Op) → slice_get vs i ≡ Some v → cut i ≡ true → v.made ≡ operation op → ((a : ℕ) → IsAmong v.args a → cut a ≡ true → Parts a) → Joined (h i) (g i) (k i)
   joined_at i v op e c q parts =
       let none = operands_none i v e c parts in
@@ -273,7 +272,7 @@ module _ {columns block rest : Columns} {carries carries_block carries_rest : �
       let z : k i ≡ rest s a = subst (λ m. k i ≡ outcome_over rest (carries_rest i) v.at m (map K v.args)) q (over_rest.made i v e c) in
       (p.0, p.1, x ∙ p.2, y ∙ p.3, z ∙ p.4)
 
-  -- no fault over all rows, or none over the block and none behind it
+  -- there is no fault over all these rows, or there is none in the block and none behind it
   abbrev NoFaultAt : ℕ → Type 0
   NoFaultAt i = (fault_of (h i) ≡ None) ⊎ ((fault_of (g i) ≡ None) × (fault_of (k i) ≡ None))
 
@@ -298,7 +297,7 @@ module _ {columns block rest : Columns} {carries carries_block carries_rest : �
         | inr two ↦ parts_of (h i) (g i) (k i) j two.0 two.1
       ]
 
-  -- a value without a fault has the rows over the block, and then those behind it
+  -- by a bound on the place
   parts_below : (n i : ℕ) (v : Vertex) → i < n → slice_get vs i ≡ Some v → cut i ≡ true → NoFaultAt i → Parts i
   parts_below zero i v l e c none = absurd (omega (arith, l))
   parts_below (suc n) i v l e c none =

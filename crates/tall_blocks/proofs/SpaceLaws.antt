@@ -1,4 +1,6 @@
--- Over a block two values of one space have the same row numbers, and so two operands that are cut are equally long.
+-- Over a block two values of one space have equal row numbers, where neither has a fault; so two operands that are cut have
+-- equally many rows. Values of one space come from the variables of a datastore by operators and scans, which keep the
+-- numbers, and by filters with masks of one tree, which over the block are equal.
 use Rattle.std.specs.Prelude.{◌≡◌, refl, ℕ, zero, suc, ◌<◌, ◌+◌, Bool, true, false, None, Some, List, [], ◌∷◌, length, map, slice_get}
 use Rattle.std.proofs.Common.{ap, sym, subst, ◌∙◌, arith, inl, inr}
 use Rattle.std.proofs.lemmas.List.{length-map}
@@ -6,7 +8,7 @@ use Rattle.tall_value.specs.declared.class.Class.{Class}
 use Rattle.tall_value.specs.declared.functions.Scan.{Scan}
 use Rattle.tall_value.specs.Cells.{Seen, amount}
 use Rattle.tall_value.specs.Classes.{kind_of}
-use Rattle.tall_semantics.specs.Operations.{Op, constant, unary, binary, filter, reduce, scan, head, tail, distinct, group, Made, stored, operation, Tree, column, leaf, one, two}
+use Rattle.tall_semantics.specs.Operations.{Op, constant, unary, binary, filter, reduce, scan, head, tail, distinct, group, Made, stored, operation, Tree, leaf}
 use Rattle.tall_value.specs.declared.class.Kind.{Kind}
 use Rattle.tall_value.specs.declared.class.Kind.TheVariants.{Integer, Logical, Double, Text}
 use Rattle.tall_value.specs.declared.functions.Scan.TheVariants.{CumSum, CumMin, CumMax}
@@ -19,64 +21,61 @@ use Rattle.tall_value.specs.Scans.{integer_sums, bests}
 use Rattle.tall_semantics.specs.Equality.{same_space}
 use Rattle.tall_semantics.proofs.RowNumberLaws.{numbers, ok_rows, ok_inside, each_row_numbers, each_pair_numbers, integer_numbers, double_numbers, best_numbers, kept_numbers}
 use Rattle.tall_semantics.proofs.SpaceLaws.{num_one, num_rows, num_alone, common_is}
-use Rattle.tall_semantics.specs.Spaces.{Space, rows_of, kept, is_single}
-use Rattle.tall_semantics.specs.Faults.{At, Fault, least_fault}
+use Rattle.tall_semantics.specs.Spaces.{Space, rows_of, kept}
+use Rattle.tall_semantics.specs.Faults.{At}
 use Rattle.tall_semantics.specs.Outcomes.{Outcome, rows, scalar, fault, fault_of, rows_in, cells_in, elementwise_two}
 use Rattle.tall_semantics.specs.RowsOfSpaces.{numbers_in}
-use Rattle.tall_semantics.specs.Shapes.{Shape, place_of, tree_over, common, masked}
-use Rattle.tall_semantics.specs.Talls.{Tall, Columns, shapes, outcomes}
+use Rattle.tall_semantics.specs.Shapes.{Shape, place_of, common, masked}
+use Rattle.tall_semantics.specs.Talls.{Tall, Columns, shapes}
 use Rattle.tall_semantics.specs.Deferred.{Vertex, IsMeaning, IsOrdered, IsAmong, fault_in, least_in}
-use Rattle.tall_blocks.specs.Carries.{Rows, carry_after, or_zero, sums_from, scanned_from}
-use Rattle.tall_blocks.specs.Cut.{IsScalar, CanBeCut, AreCut, AreAligned}
-use Rattle.tall_blocks.specs.ValuesOver.{carry_of, carry_at, next_carries, own_over, outcome_over, value_over, IsOver}
+use Rattle.tall_blocks.specs.Carries.{Rows, or_zero, sums_from, scanned_from}
+use Rattle.tall_blocks.specs.Cut.{CanBeCut, AreCut, AreAligned}
+use Rattle.tall_blocks.specs.ValuesOver.{own_over, outcome_over, value_over, IsOver}
 use Rattle.tall_semantics.proofs.EqualityLaws.{spaces_decided}
 use Rattle.tall_semantics.proofs.OriginLaws.{get_before, below_among}
-use Rattle.tall_semantics.proofs.MeaningLaws.{stored_value, made_value, tall_shape, tree_value}
-use Rattle.tall_semantics.proofs.FaultLaws.{same_own, same_rows}
+use Rattle.tall_semantics.proofs.MeaningLaws.{stored_value, made_value, tall_shape}
 use Rattle.tall_semantics.proofs.ShapeLaws.{place_ok, space_ok, shaped_is, placed_is, column_is, tested, inside}
-use Rattle.tall_semantics.proofs.TreeLaws.{same_tall, two_at_most, not_column, one_shape}
-use Rattle.tall_semantics.proofs.OriginLaws.{none_or_some, faults_of_values}
-use Rattle.tall_blocks.proofs.SeenLaws.{true_or_false, known_scalar, own_of, none_args, least_none}
+use Rattle.tall_blocks.proofs.SeenLaws.{own_of, none_args, least_none}
 use Rattle.tall_blocks.specs.Blocks.{IsVariable}
 use Rattle.tall_blocks.proofs.TreeOverLaws.{AreOfSpaces, tree_same}
 
--- ---- row numbers of operations
+-- ---- operators and scans keep the numbers
 
-sums_numbers : (a : Kind) (c : Seen) (rs outs : Rows) → sums_from a c rs ≡ ok_rows outs → numbers outs ≡ numbers rs
-sums_numbers (Integer k) c rs outs e = ap numbers (sym (ok_inside (integer_sums k (or_zero (amount c)) rs) outs e)) ∙ integer_numbers k (or_zero (amount c)) rs
-sums_numbers Logical c rs outs e = double_numbers (amount c) rs outs e
-sums_numbers Double c rs outs e = double_numbers (amount c) rs outs e
-sums_numbers Text c rs outs e = double_numbers (amount c) rs outs e
+sums_keep : (a : Kind) (c : Seen) (rs outs : Rows) → sums_from a c rs ≡ ok_rows outs → numbers outs ≡ numbers rs
+sums_keep (Integer k) c rs outs e = ap numbers (sym (ok_inside (integer_sums k (or_zero (amount c)) rs) outs e)) ∙ integer_numbers k (or_zero (amount c)) rs
+sums_keep Logical c rs outs e = double_numbers (amount c) rs outs e
+sums_keep Double c rs outs e = double_numbers (amount c) rs outs e
+sums_keep Text c rs outs e = double_numbers (amount c) rs outs e
 
-from_numbers : (s : Scan) (a : Kind) (c : Seen) (rs outs : Rows) → scanned_from s a c rs ≡ ok_rows outs → numbers outs ≡ numbers rs
-from_numbers CumSum a c rs outs e = sums_numbers a c rs outs e
-from_numbers CumMin a c rs outs e = ap numbers (sym (ok_inside (bests lesser c rs) outs e)) ∙ best_numbers lesser c rs
-from_numbers CumMax a c rs outs e = ap numbers (sym (ok_inside (bests greater c rs) outs e)) ∙ best_numbers greater c rs
+scan_keeps : (s : Scan) (a : Kind) (c : Seen) (rs outs : Rows) → scanned_from s a c rs ≡ ok_rows outs → numbers outs ≡ numbers rs
+scan_keeps CumSum a c rs outs e = sums_keep a c rs outs e
+scan_keeps CumMin a c rs outs e = ap numbers (sym (ok_inside (bests lesser c rs) outs e)) ∙ best_numbers lesser c rs
+scan_keeps CumMax a c rs outs e = ap numbers (sym (ok_inside (bests greater c rs) outs e)) ∙ best_numbers greater c rs
 
-pair_nums : (at : At) (op : Binary) (x y : Outcome) → fault_of x ≡ None → fault_of y ≡ None → numbers_in x ≡ numbers_in y → fault_of (elementwise_two at op x y) ≡ None → numbers_in (elementwise_two at op x y) ≡ numbers_in x
-pair_nums at op (rows rs) (rows ss) m n e z = num_rows at (binary_rows op rs ss) (numbers rs) (λ outs q. each_pair_numbers (binary_cell op) rs ss outs e q) z
-pair_nums at op (rows rs) (scalar d) m n e z = num_rows at (scalar_rows op false d rs) (numbers rs) (λ outs q. each_row_numbers (beside op false d) rs outs q) z
-pair_nums at op (rows rs) (fault g) m n e z = absurd (cc)
-pair_nums at op (scalar c) (rows ss) m n e z = num_rows at (scalar_rows op true c ss) (numbers ss) (λ outs q. each_row_numbers (beside op true c) ss outs q) z ∙ sym e
-pair_nums at op (scalar c) (scalar d) m n e z = num_alone at (or_fault (binary_cell op c d)) z
-pair_nums at op (scalar c) (fault g) m n e z = absurd (cc)
-pair_nums at op (fault g) y m n e z = absurd (cc)
+pair_keeps : (at : At) (op : Binary) (x y : Outcome) → fault_of x ≡ None → fault_of y ≡ None → numbers_in x ≡ numbers_in y → fault_of (elementwise_two at op x y) ≡ None → numbers_in (elementwise_two at op x y) ≡ numbers_in x
+pair_keeps at op (rows rs) (rows ss) m n e z = num_rows at (binary_rows op rs ss) (numbers rs) (λ outs q. each_pair_numbers (binary_cell op) rs ss outs e q) z
+pair_keeps at op (rows rs) (scalar d) m n e z = num_rows at (scalar_rows op false d rs) (numbers rs) (λ outs q. each_row_numbers (beside op false d) rs outs q) z
+pair_keeps at op (rows rs) (fault g) m n e z = absurd (cc)
+pair_keeps at op (scalar c) (rows ss) m n e z = num_rows at (scalar_rows op true c ss) (numbers ss) (λ outs q. each_row_numbers (beside op true c) ss outs q) z ∙ sym e
+pair_keeps at op (scalar c) (scalar d) m n e z = num_alone at (or_fault (binary_cell op c d)) z
+pair_keeps at op (scalar c) (fault g) m n e z = absurd (cc)
+pair_keeps at op (fault g) y m n e z = absurd (cc)
 
-left_nums : (at : At) (op : Binary) (x : Outcome) (d : Seen) → fault_of x ≡ None → fault_of (elementwise_two at op x (scalar d)) ≡ None → numbers_in (elementwise_two at op x (scalar d)) ≡ numbers_in x
-left_nums at op (rows rs) d m z = num_rows at (scalar_rows op false d rs) (numbers rs) (λ outs q. each_row_numbers (beside op false d) rs outs q) z
-left_nums at op (scalar c) d m z = num_alone at (or_fault (binary_cell op c d)) z
-left_nums at op (fault g) d m z = absurd (cc)
+left_keeps : (at : At) (op : Binary) (x : Outcome) (d : Seen) → fault_of x ≡ None → fault_of (elementwise_two at op x (scalar d)) ≡ None → numbers_in (elementwise_two at op x (scalar d)) ≡ numbers_in x
+left_keeps at op (rows rs) d m z = num_rows at (scalar_rows op false d rs) (numbers rs) (λ outs q. each_row_numbers (beside op false d) rs outs q) z
+left_keeps at op (scalar c) d m z = num_alone at (or_fault (binary_cell op c d)) z
+left_keeps at op (fault g) d m z = absurd (cc)
 
-right_nums : (at : At) (op : Binary) (x : Outcome) (d : Seen) → fault_of x ≡ None → fault_of (elementwise_two at op (scalar d) x) ≡ None → numbers_in (elementwise_two at op (scalar d) x) ≡ numbers_in x
-right_nums at op (rows rs) d m z = num_rows at (scalar_rows op true d rs) (numbers rs) (λ outs q. each_row_numbers (beside op true d) rs outs q) z
-right_nums at op (scalar c) d m z = num_alone at (or_fault (binary_cell op d c)) z
-right_nums at op (fault g) d m z = absurd (cc)
+right_keeps : (at : At) (op : Binary) (x : Outcome) (d : Seen) → fault_of x ≡ None → fault_of (elementwise_two at op (scalar d) x) ≡ None → numbers_in (elementwise_two at op (scalar d) x) ≡ numbers_in x
+right_keeps at op (rows rs) d m z = num_rows at (scalar_rows op true d rs) (numbers rs) (λ outs q. each_row_numbers (beside op true d) rs outs q) z
+right_keeps at op (scalar c) d m z = num_alone at (or_fault (binary_cell op d c)) z
+right_keeps at op (fault g) d m z = absurd (cc)
 
--- ---- spaces
+-- ---- where the rows of a value come from
 
 module _ (whole : Columns) {columns : Columns} {carries : ℕ → Seen} {vs : List Vertex} {f : ℕ → Tall} {cut : ℕ → Bool} {h : ℕ → Outcome} (meaning : IsMeaning whole vs f) (ordered : IsOrdered vs) (over : IsOver columns carries vs f cut h) (can : AreCut f cut vs) (of_spaces : AreOfSpaces columns carries vs f cut) where
-  -- a place with a cut value without a fault
-  record At_place (a : ℕ) : Type 0 where
+  -- a value that is cut and has no fault
+  record FreeAt (a : ℕ) : Type 0 where
     u : Vertex
     there : slice_get vs a ≡ Some u
     is_cut : cut a ≡ true
@@ -84,20 +83,20 @@ module _ (whole : Columns) {columns : Columns} {carries : ℕ → Seen} {vs : Li
 
   data View (i : ℕ) : Type 0 where
     base : (v : Vertex) (s a : ℕ) → slice_get vs i ≡ Some v → cut i ≡ true → IsVariable v.made s a → (f i).shape.space ≡ rows_of s → h i ≡ columns s a → View i
-    lower : (a : ℕ) → a < i → At_place a → (f a).shape.space ≡ (f i).shape.space → numbers_in (h i) ≡ numbers_in (h a) → View i
-    masks : (x m : ℕ) → x < i → m < i → At_place x → At_place m → (f i).shape.space ≡ kept (f x).shape.space (f m).shape.tree → numbers_in (h i) ≡ filters.kept (numbers_in (h x)) (cells_in (h m)) → View i
+    lower : (a : ℕ) → a < i → FreeAt a → (f a).shape.space ≡ (f i).shape.space → numbers_in (h i) ≡ numbers_in (h a) → View i
+    masks : (x m : ℕ) → x < i → m < i → FreeAt x → FreeAt m → (f i).shape.space ≡ kept (f x).shape.space (f m).shape.tree → numbers_in (h i) ≡ filters.kept (numbers_in (h x)) (cells_in (h m)) → View i
 
-  abbrev Equal_below : ℕ → Type 0
-  Equal_below i = (a b : ℕ) → a < i → b < i → At_place a → At_place b → (f a).shape.space ≡ (f b).shape.space → numbers_in (h a) ≡ numbers_in (h b)
+  abbrev AreEqualBelow : ℕ → Type 0
+  AreEqualBelow i = (a b : ℕ) → a < i → b < i → FreeAt a → FreeAt b → (f a).shape.space ≡ (f b).shape.space → numbers_in (h a) ≡ numbers_in (h b)
 
   space_is : (i : ℕ) (v : Vertex) (op : Op) → slice_get vs i ≡ Some v → v.made ≡ operation op → (p : Class × Space) × (place_of op (shapes (map f v.args)) ≡ place_ok p) × (p.1 ≡ (f i).shape.space)
   space_is i v op e q =
       let w = shaped_is op (shapes (map f v.args)) (place_of op (shapes (map f v.args))) (f i).shape (tall_shape v.at op (map f v.args) (f i) (made_value whole vs f meaning i v op e q)) in
       (w.0, w.1, ap (λ (s : Shape). s.space) w.2)
 
-  -- by the operation and its operands
+  -- by the operation
   view_op : (i : ℕ) (c : Seen) (at : At) (op : Op) (args : List ℕ) (p : Class × Space) → place_of op (shapes (map f args)) ≡ place_ok p → p.1 ≡ (f i).shape.space → CanBeCut f cut (operation op) args
-      → ((a : ℕ) → IsAmong args a → a < i) → ((a : ℕ) → IsAmong args a → cut a ≡ true → At_place a) → h i ≡ own_over c at op (map (value_over f h) args) → fault_of (h i) ≡ None → Equal_below i → View i
+      → ((a : ℕ) → IsAmong args a → a < i) → ((a : ℕ) → IsAmong args a → cut a ≡ true → FreeAt a) → h i ≡ own_over c at op (map (value_over f h) args) → fault_of (h i) ≡ None → AreEqualBelow i → View i
   view_op i c at (constant x) args p s t k less place o n equal = absurd k
   view_op i c at (unary op) [] p s t k less place o n equal = absurd k
   view_op i c at (unary op) (a ∷ []) p s t k less place o n equal =
@@ -115,18 +114,18 @@ module _ (whole : Columns) {columns : Columns} {carries : ℕ → Seen} {vs : Li
             let y = place b (inr (inl refl)) both.1 in
             let sa : (f a).shape.space ≡ p.1 = w.0 (of_spaces.cut_rows a x.u x.there both.0) in
             let sb : (f b).shape.space ≡ p.1 = w.1 (of_spaces.cut_rows b y.u y.there both.1) in
-            lower a (less a (inl refl)) x (sa ∙ t) (ap numbers_in o ∙ pair_nums at op (h a) (h b) x.none y.none (equal a b (less a (inl refl)) (less b (inr (inl refl))) x y (sa ∙ sym sb)) m)
+            lower a (less a (inl refl)) x (sa ∙ t) (ap numbers_in o ∙ pair_keeps at op (h a) (h b) x.none y.none (equal a b (less a (inl refl)) (less b (inr (inl refl))) x y (sa ∙ sym sb)) m)
         | inr single_one ↦ elim single_one [
           | inl left ↦
               let x = place a (inl refl) left.0 in
               let d : h b ≡ scalar left.1.1.0 = over.known b left.1.0 ∙ left.1.1.1 in
               let q : h i ≡ elementwise_two at op (h a) (scalar left.1.1.0) = o ∙ ap (elementwise_two at op (h a)) d in
-              lower a (less a (inl refl)) x (w.0 (of_spaces.cut_rows a x.u x.there left.0) ∙ t) (ap numbers_in q ∙ left_nums at op (h a) left.1.1.0 x.none (sym (ap fault_of q) ∙ n))
+              lower a (less a (inl refl)) x (w.0 (of_spaces.cut_rows a x.u x.there left.0) ∙ t) (ap numbers_in q ∙ left_keeps at op (h a) left.1.1.0 x.none (sym (ap fault_of q) ∙ n))
           | inr right ↦
               let y = place b (inr (inl refl)) right.1 in
               let d : h a ≡ scalar right.0.1.0 = over.known a right.0.0 ∙ right.0.1.1 in
               let q : h i ≡ elementwise_two at op (scalar right.0.1.0) (h b) = o ∙ ap (λ r. elementwise_two at op r (h b)) d in
-              lower b (less b (inr (inl refl))) y (w.1 (of_spaces.cut_rows b y.u y.there right.1) ∙ t) (ap numbers_in q ∙ right_nums at op (h b) right.0.1.0 y.none (sym (ap fault_of q) ∙ n))
+              lower b (less b (inr (inl refl))) y (w.1 (of_spaces.cut_rows b y.u y.there right.1) ∙ t) (ap numbers_in q ∙ right_keeps at op (h b) right.0.1.0 y.none (sym (ap fault_of q) ∙ n))
         ]
       ]
   view_op i c at (binary op) (a ∷ b ∷ d ∷ args) p s t k less place o n equal = absurd k
@@ -142,7 +141,7 @@ module _ (whole : Columns) {columns : Columns} {carries : ℕ → Seen} {vs : Li
   view_op i c at (scan r) (a ∷ []) p s t k less place o n equal =
       let kind = kind_of (f a).shape.class in
       lower a (less a (inl refl)) (place a (inl refl) k) (inside (f a).shape.space p.1 (placed_is _ (space_ok (f a).shape.space) p (column_is (f a).shape _ p s)) ∙ t)
-      (ap numbers_in o ∙ num_rows at (scanned_from r kind c (rows_in (h a))) (numbers_in (h a)) (λ outs q. from_numbers r kind c (rows_in (h a)) outs q) (sym (ap fault_of o) ∙ n))
+      (ap numbers_in o ∙ num_rows at (scanned_from r kind c (rows_in (h a))) (numbers_in (h a)) (λ outs q. scan_keeps r kind c (rows_in (h a)) outs q) (sym (ap fault_of o) ∙ n))
   view_op i c at (scan r) (a ∷ b ∷ args) p s t k less place o n equal = absurd k
   view_op i c at (reduce r) args p s t k less place o n equal = absurd k
   view_op i c at (head j) args p s t k less place o n equal = absurd k
@@ -150,7 +149,7 @@ module _ (whole : Columns) {columns : Columns} {carries : ℕ → Seen} {vs : Li
   view_op i c at distinct args p s t k less place o n equal = absurd k
   view_op i c at (group g part) args p s t k less place o n equal = absurd k
 
-  view_made : (i : ℕ) (v : Vertex) (m : Made) → slice_get vs i ≡ Some v → cut i ≡ true → v.made ≡ m → fault_of (h i) ≡ None → Equal_below i → View i
+  view_made : (i : ℕ) (v : Vertex) (m : Made) → slice_get vs i ≡ Some v → cut i ≡ true → v.made ≡ m → fault_of (h i) ≡ None → AreEqualBelow i → View i
   view_made i v (stored s a k) e c q n equal =
       base v s a e c (subst (λ m. IsVariable m s a) (sym q) (refl, refl)) (sym (ap (λ (t : Tall). t.shape.space) (stored_value whole vs f meaning i v s a k e q))) (subst (λ m. h i ≡ outcome_over columns (carries i) v.at m (map (value_over f h) v.args)) q (over.made i v e c))
   view_made i v (operation op) e c q n equal =
@@ -162,9 +161,9 @@ module _ (whole : Columns) {columns : Columns} {carries : ℕ → Seen} {vs : Li
       record { u = b.0; there = b.1; is_cut = is_cut; none = least_none (fault_in (value_over f h)) v.args a none among })
       (own_of over can i v op e c q none) n equal
 
-  store_of : Space → ℕ
-  store_of (rows_of s) = s
-  store_of s = 0
+  base_of : Space → ℕ
+  base_of (rows_of s) = s
+  base_of s = 0
 
   inner_of : Space → Space
   inner_of (kept s t) = s
@@ -175,15 +174,15 @@ module _ (whole : Columns) {columns : Columns} {carries : ℕ → Seen} {vs : Li
   mask_of s = leaf filter
 
   compared : (i j : ℕ) → View i → View j → (f i).shape.space ≡ (f j).shape.space
-      → ((a : ℕ) → a < i → At_place a → (f a).shape.space ≡ (f j).shape.space → numbers_in (h a) ≡ numbers_in (h j))
-      → ((b : ℕ) → b < j → At_place b → (f i).shape.space ≡ (f b).shape.space → numbers_in (h i) ≡ numbers_in (h b))
-      → ((a b : ℕ) → a < i → b < j → At_place a → At_place b → (f a).shape.space ≡ (f b).shape.space → numbers_in (h a) ≡ numbers_in (h b))
+      → ((a : ℕ) → a < i → FreeAt a → (f a).shape.space ≡ (f j).shape.space → numbers_in (h a) ≡ numbers_in (h j))
+      → ((b : ℕ) → b < j → FreeAt b → (f i).shape.space ≡ (f b).shape.space → numbers_in (h i) ≡ numbers_in (h b))
+      → ((a b : ℕ) → a < i → b < j → FreeAt a → FreeAt b → (f a).shape.space ≡ (f b).shape.space → numbers_in (h a) ≡ numbers_in (h b))
       → numbers_in (h i) ≡ numbers_in (h j)
-  unfolding store_of inner_of mask_of
+  unfolding base_of inner_of mask_of
   compared i j (lower a l x s n) w t down_i down_j both = n ∙ down_i a l x (s ∙ t)
   compared i j v (lower b l y s n) t down_i down_j both = down_j b l y (t ∙ sym s) ∙ sym n
   compared i j (base v s a e c m p x) (base w u b g d n q y) t down_i down_j both =
-      let same : s ≡ u = ap store_of (sym p ∙ (t ∙ q)) in
+      let same : s ≡ u = ap base_of (sym p ∙ (t ∙ q)) in
       ap numbers_in x ∙ (of_spaces.same_numbers i j v w s a b e g c d m (subst (λ k. IsVariable w.made k b) (sym same) n) ∙ (ap (λ k. numbers_in (columns k b)) same ∙ sym (ap numbers_in y)))
   compared i j (base v s a e c d p x) (masks y m ly lm py pm q n) t down_i down_j both = absurd (let z : rows_of s ≡ kept (f y).shape.space (f m).shape.tree = sym p ∙ (t ∙ q) in cc)
   compared i j (masks x m lx lm px pm p n) (base w u b g c d q y) t down_i down_j both = absurd (let z : kept (f x).shape.space (f m).shape.tree ≡ rows_of u = sym p ∙ (t ∙ q) in cc)
@@ -193,8 +192,8 @@ module _ (whole : Columns) {columns : Columns} {carries : ℕ → Seen} {vs : Li
       let mask : h m ≡ h k = tree_same whole meaning ordered over can of_spaces m k pm.u pk.u pm.there pk.there pm.is_cut pk.is_cut (ap mask_of z) pm.none pk.none in
       n ∙ (ap (λ ns. filters.kept ns (cells_in (h m))) inner ∙ (ap (λ r. filters.kept (numbers_in (h y)) (cells_in r)) mask ∙ sym o))
 
-  -- by a bound on both places, and one on their sum
-  within : (n m i j : ℕ) → i < n → j < n → i + j < m → At_place i → At_place j → (f i).shape.space ≡ (f j).shape.space → numbers_in (h i) ≡ numbers_in (h j)
+  -- by a bound on both places, and within it by one on their sum
+  within : (n m i j : ℕ) → i < n → j < n → i + j < m → FreeAt i → FreeAt j → (f i).shape.space ≡ (f j).shape.space → numbers_in (h i) ≡ numbers_in (h j)
   within zero m i j li lj l x y t = absurd (omega (arith, li))
   within (suc n) zero i j li lj l x y t = absurd (omega (arith, l))
   within (suc n) (suc m) i j li lj l x y t =
@@ -209,7 +208,7 @@ module _ (whole : Columns) {columns : Columns} {carries : ℕ → Seen} {vs : Li
   pub space_numbers : (i j : ℕ) (v w : Vertex) → slice_get vs i ≡ Some v → slice_get vs j ≡ Some w → cut i ≡ true → cut j ≡ true → fault_of (h i) ≡ None → fault_of (h j) ≡ None → (f i).shape.space ≡ (f j).shape.space → numbers_in (h i) ≡ numbers_in (h j)
   space_numbers i j v w e g c d n m t = within (i + j + 1) (i + j + 1) i j (omega (arith)) (omega (arith)) (omega (arith)) (record { u = v; there = e; is_cut = c; none = n }) (record { u = w; there = g; is_cut = d; none = m }) t
 
-  -- so two operands that are cut have equally many rows
+  -- ---- operands
   spaces_of : (a b : ℕ) (u w : Vertex) → slice_get vs a ≡ Some u → slice_get vs b ≡ Some w → (op : Op) (args : List ℕ) (p : Class × Space) → place_of op (shapes (map f args)) ≡ place_ok p → CanBeCut f cut (operation op) args → args ≡ a ∷ b ∷ [] → cut a ≡ true → cut b ≡ true → (f a).shape.space ≡ (f b).shape.space
   spaces_of a b u w there_a there_b op args p s k e ca cb = at_two op (subst (λ xs. place_of op (shapes (map f xs)) ≡ place_ok p) e s) (subst (CanBeCut f cut (operation op)) e k)
     where

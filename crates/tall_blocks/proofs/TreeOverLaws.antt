@@ -1,43 +1,31 @@
--- Over a block values with equal trees are equal, where neither has a fault; and so are the carries behind it.
-use Rattle.std.specs.Prelude.{◌≡◌, refl, ℕ, zero, suc, ◌<◌, ◌+◌, Bool, true, false, None, Some, List, [], ◌∷◌, length, map, slice_get}
+-- Over a block values with equal trees are equal, where neither has a fault, and behind it scans with equal trees have equal
+-- carries.
+use Rattle.std.specs.Prelude.{◌≡◌, refl, ℕ, zero, suc, ◌<◌, Bool, true, false, None, Some, List, [], ◌∷◌, map, slice_get}
 use Rattle.std.proofs.Common.{ap, sym, subst, ◌∙◌, arith, inl, inr}
-use Rattle.std.proofs.lemmas.List.{length-map}
 use Rattle.tall_value.specs.declared.class.Class.{Class}
 use Rattle.tall_value.specs.declared.functions.Scan.{Scan}
-use Rattle.tall_value.specs.Cells.{Seen, amount}
+use Rattle.tall_value.specs.Cells.{Seen}
 use Rattle.tall_value.specs.Classes.{kind_of}
 use Rattle.tall_semantics.specs.Operations.{Op, constant, unary, binary, filter, reduce, scan, head, tail, distinct, group, Made, stored, operation, Tree, column, leaf, one, two}
-use Rattle.tall_value.specs.declared.class.Kind.{Kind}
-use Rattle.tall_value.specs.declared.class.Kind.TheVariants.{Integer, Logical, Double, Text}
-use Rattle.tall_value.specs.declared.functions.Scan.TheVariants.{CumSum, CumMin, CumMax}
-use Rattle.tall_value.specs.declared.operators.Binary.{Binary}
-use Rattle.tall_value.specs.CellOperators.{binary_cell}
-use Rattle.tall_value.specs.Elementwise.{binary_rows, scalar_rows, beside}
-use Rattle.tall_value.specs.Filters as filters
-use Rattle.tall_value.specs.Reductions.{lesser, greater, or_fault}
-use Rattle.tall_value.specs.Scans.{integer_sums, bests}
-use Rattle.tall_semantics.specs.Equality.{same_space}
-use Rattle.tall_semantics.proofs.RowNumberLaws.{numbers, ok_rows, ok_inside, each_row_numbers, each_pair_numbers, integer_numbers, double_numbers, best_numbers, kept_numbers}
-use Rattle.tall_semantics.proofs.SpaceLaws.{num_one, num_rows, num_alone, common_is}
-use Rattle.tall_semantics.specs.Spaces.{Space, rows_of, kept, is_single}
+use Rattle.tall_semantics.specs.Spaces.{Space, is_single}
 use Rattle.tall_semantics.specs.Faults.{At, Fault, least_fault}
-use Rattle.tall_semantics.specs.Outcomes.{Outcome, rows, scalar, fault, fault_of, rows_in, cells_in, elementwise_two}
+use Rattle.tall_semantics.specs.Outcomes.{Outcome, rows, scalar, fault, fault_of, rows_in}
 use Rattle.tall_semantics.specs.RowsOfSpaces.{numbers_in}
-use Rattle.tall_semantics.specs.Shapes.{Shape, place_of, tree_over, common, masked}
+use Rattle.tall_semantics.specs.Shapes.{Shape, place_of, tree_over}
 use Rattle.tall_semantics.specs.Talls.{Tall, Columns, shapes, outcomes}
 use Rattle.tall_semantics.specs.Deferred.{Vertex, IsMeaning, IsOrdered, IsAmong, fault_in, least_in}
-use Rattle.tall_blocks.specs.Carries.{Rows, carry_after, or_zero, sums_from, scanned_from}
-use Rattle.tall_blocks.specs.Cut.{IsScalar, CanBeCut, AreCut, AreAligned}
+use Rattle.tall_blocks.specs.Carries.{carry_after, scanned_from}
+use Rattle.tall_blocks.specs.Cut.{IsScalar, CanBeCut, AreCut}
 use Rattle.tall_blocks.specs.ValuesOver.{carry_of, carry_at, next_carries, own_over, outcome_over, value_over, IsOver}
 use Rattle.tall_blocks.specs.Blocks.{IsVariable}
-use Rattle.tall_semantics.proofs.EqualityLaws.{spaces_decided}
 use Rattle.tall_semantics.proofs.OriginLaws.{get_before, below_among}
 use Rattle.tall_semantics.proofs.MeaningLaws.{stored_value, made_value, tall_shape, tree_value}
 use Rattle.tall_semantics.proofs.FaultLaws.{same_own, same_rows}
-use Rattle.tall_semantics.proofs.ShapeLaws.{place_ok, space_ok, shaped_is, placed_is, column_is, tested, inside}
+use Rattle.tall_semantics.proofs.ShapeLaws.{place_ok, shaped_is}
 use Rattle.tall_semantics.proofs.TreeLaws.{same_tall, two_at_most, not_column, one_shape}
 use Rattle.tall_semantics.proofs.OriginLaws.{none_or_some, faults_of_values}
-use Rattle.tall_blocks.proofs.SeenLaws.{true_or_false, known_scalar, own_of, none_args, least_none}
+use Rattle.tall_blocks.proofs.Choices.{true_or_false}
+use Rattle.tall_blocks.proofs.SeenLaws.{known_scalar, own_of, none_args, least_none}
 
 -- what the values over a block stand on so that spaces tell their rows: equal trees go on from equal carries, what is cut is
 -- no scalar, what is known as a scalar has the space of scalars and is told by its tree, and the variables have equal row
@@ -91,7 +79,7 @@ module _ (whole : Columns) {columns : Columns} {carries : ℕ → Seen} {vs : Li
   abbrev H : ℕ → Tall
   H = value_over f h
 
-  -- where one has no fault, so has the other, and they are equal
+  -- if the first has no fault, it is the second
   Same : ℕ → ℕ → Type 0
   Same a b = fault_of (h a) ≡ None → H a ≡ H b
 
@@ -166,7 +154,7 @@ module _ (whole : Columns) {columns : Columns} {carries : ℕ → Seen} {vs : Li
       same_tall (H i) (H j) (one_shape whole vs f meaning ordered i j v w e g t)
       (left ∙ (at ∙ (ap (own_over (carries i) w.at op) args ∙ (ap (λ k. own_over k w.at op (map H w.args)) (of_spaces.one_carry i j v w e g x y t) ∙ sym right))))
 
-  -- operands, cut or known
+  -- of operands, which are cut or known
   operands_same : (a b : ℕ) (u w : Vertex) → slice_get vs a ≡ Some u → slice_get vs b ≡ Some w → (cut a ≡ false → IsScalar (f a).outcome) → (cut b ≡ false → IsScalar (f b).outcome) → (f a).shape.tree ≡ (f b).shape.tree
       → (cut a ≡ true → cut b ≡ true → Same a b) → Same a b
   unfolding Same
@@ -196,12 +184,12 @@ module _ (whole : Columns) {columns : Columns} {carries : ℕ → Seen} {vs : Li
       (λ ca cb. by_bound n a b u.0 z.0 (omega (arith, l, m)) u.1 z.1 ca cb r))
       t
 
-  -- equal trees have equal outcomes over a block
+  -- ---- of values that are cut
   pub tree_same : (i j : ℕ) (v w : Vertex) → slice_get vs i ≡ Some v → slice_get vs j ≡ Some w → cut i ≡ true → cut j ≡ true → (f i).shape.tree ≡ (f j).shape.tree → fault_of (h i) ≡ None → fault_of (h j) ≡ None → h i ≡ h j
   unfolding Same
   tree_same i j v w e g x y t ni nj = ap (λ (z : Tall). z.outcome) (by_bound (suc i) i j v w (omega (arith)) e g x y t ni)
 
-  -- and so equally many rows, of a fault none
+  -- a fault has no rows, and both have one or none has
   pub rows_same : (i j : ℕ) (v w : Vertex) → slice_get vs i ≡ Some v → slice_get vs j ≡ Some w → cut i ≡ true → cut j ≡ true → (f i).shape.tree ≡ (f j).shape.tree → rows_in (h i) ≡ rows_in (h j)
   unfolding Same
   rows_same i j v w e g x y t = elim (none_or_some (fault_of (h i))) [
@@ -270,7 +258,7 @@ module _ (whole : Columns) {columns : Columns} {carries : ℕ → Seen} {vs : Li
       (one_shape whole vs f meaning ordered a b u.0 z.0 u.1 z.1 k, rows_same a b u.0 z.0 u.1 z.1 ca cb k))
       ∙ ap (λ k. carry_of f h (operation k) w.args (carries j)) same.op_is
 
-  -- the next block's carries are equal for equal trees too
+  -- ---- carries
   pub next_carry : (i j : ℕ) (v w : Vertex) → slice_get vs i ≡ Some v → slice_get vs j ≡ Some w → cut i ≡ true → cut j ≡ true → (f i).shape.tree ≡ (f j).shape.tree → next_carries vs f h carries i ≡ next_carries vs f h carries j
   next_carry i j v w e g x y t =
       ap (λ o. carry_at f h o (carries i)) e ∙ (carry_of_both i j v w v.made w.made e g x y refl refl t ∙ sym (ap (λ o. carry_at f h o (carries j)) g))

@@ -1,73 +1,88 @@
--- Worked values over blocks: x, l = logical(x), y = 1 ./ l over the rows 0 and NaN, cut into two blocks of one row. y fails
--- in the first block and l only in the second, so y has no fault of its own; the least is that of l.
-use Rattle.std.specs.Prelude.{◌≡◌, refl, ℕ, pos, ◌==◌, not, Bool, Option, None, Some, List, [], ◌∷◌, map}
-use Rattle.tall_value.specs.declared.class.Class.TheVariants as class
+-- Worked values over blocks. y = 1 ./ l fails at the 0 of the first block, and l = logical(x) only at the NaN of the
+-- second, so over all rows the fault of y is that of l, and no fault of its own.
+use Rattle.std.specs.Prelude.{◌≡◌, refl, ℕ, pos, false, true, Option, None, Some, List, [], ◌∷◌, map}
 use Rattle.tall_value.specs.declared.faults.FaultKind.TheVariants.{Inexact, NanLogical}
-use Rattle.tall_value.specs.declared.functions.Scan.TheVariants.{CumSum}
-use Rattle.tall_value.specs.declared.operators.Binary.TheVariants.{Div}
-use Rattle.tall_value.specs.declared.operators.Unary.TheVariants.{ToLogical}
 use Rattle.tall_value.specs.Columns.{numbered}
-use Rattle.tall_semantics.specs.Operations.{constant, unary, binary, scan, stored, operation}
-use Rattle.tall_value.specs.Cells.{Seen}
-use Rattle.tall_semantics.specs.Faults.{Fault, fault_at}
-use Rattle.tall_semantics.specs.Outcomes.{Outcome, rows}
-use Rattle.tall_semantics.specs.Talls.{Tall, Columns, tall}
-use Rattle.tall_semantics.specs.Deferred.{Vertex, own_in}
-use Rattle.tall_semantics.specs.InOrder.{tall_in, talls_from, talls}
+use Rattle.tall_semantics.specs.Faults.{Fault, fault_at, least_fault}
+use Rattle.tall_semantics.specs.Outcomes.{Outcome, rows, scalar}
+use Rattle.tall_semantics.specs.Talls.{tall}
+use Rattle.tall_semantics.specs.Deferred.{own_in}
+use Rattle.tall_semantics.specs.InOrder.{talls_from}
+use Rattle.tall_semantics.specs.Numbered.{levels_in}
 use Rattle.tall_semantics.specs.Samples.{at, doubles, number}
-use Rattle.tall_blocks.specs.Blocks.{Block, block_columns, all_rows}
-use Rattle.tall_blocks.specs.ValuesOver.{next_carries, start_carries, value_over, outcomes_over}
-
-abbrev vertices : List Vertex
-vertices =
-    record { at = at 1 1; made = stored 0 0 class.Double; args = [] }
-    ∷ record { at = at 2 2; made = operation (unary ToLogical); args = 0 ∷ [] }
-    ∷ record { at = at 3 3; made = operation (constant (number (pos 1))); args = [] }
-    ∷ record { at = at 4 3; made = operation (binary Div); args = 2 ∷ 1 ∷ [] }
-    ∷ record { at = at 5 4; made = operation (scan CumSum); args = 0 ∷ [] }
-    ∷ []
-
-abbrev first : Block
-first s v = numbered 1 (doubles (Some (pos 0) ∷ []))
-
-abbrev second : Block
-second s v = numbered 2 (doubles (None ∷ []))
-
-abbrev whole : Columns
-whole = block_columns (all_rows (first ∷ second ∷ []))
-
-abbrev value : ℕ → Tall
-value = tall_in (talls whole vertices)
-
--- all but the constant are cut
-abbrev cut : ℕ → Bool
-cut i = not (i == 2)
-
-abbrev start : ℕ → Seen
-start = start_carries vertices value
-
-abbrev over_first : ℕ → Outcome
-over_first = outcomes_over (block_columns first) start vertices value cut
-
-abbrev over_second : ℕ → Outcome
-over_second = outcomes_over (block_columns second) (next_carries vertices value over_first start) vertices value cut
+use Rattle.tall_blocks.specs.Blocks.{all_rows}
+use Rattle.tall_blocks.specs.PassWork.{cut_at}
+use Rattle.tall_blocks.specs.ValuesOver.{value_over, block_outcomes, rows_of_blocks}
+use Rattle.tall_blocks.specs.BlockSamples.{vertices, blocks, value, cut, start, over_first, behind_first, over_second}
 
 abbrev own : (ℕ → Outcome) → List (Option Fault)
-own h = map (own_in vertices (value_over value h)) (0 ∷ 1 ∷ 3 ∷ [])
+own h = map (own_in vertices (value_over value h)) (0 ∷ 1 ∷ 3 ∷ 4 ∷ [])
 
-seen_first : own over_first ≡ None ∷ None ∷ Some (fault_at (at 4 3) (Some 1) Inexact) ∷ []
+rows_in_order : all_rows blocks 0 0 ≡ numbered 1 (doubles (Some (pos 0) ∷ None ∷ []))
+rows_in_order = refl
+
+-- ---- faults
+
+seen_in_first : own over_first ≡ None ∷ None ∷ Some (fault_at (at 4 3) (Some 1) Inexact) ∷ None ∷ []
 unfolding tall talls_from
-seen_first = refl
+seen_in_first = refl
 
-seen_second : own over_second ≡ None ∷ Some (fault_at (at 2 2) (Some 2) NanLogical) ∷ None ∷ []
+-- a fault has its row's number, not its place in the block
+seen_in_second : own over_second ≡ None ∷ Some (fault_at (at 2 2) (Some 2) NanLogical) ∷ None ∷ None ∷ []
 unfolding tall talls_from
-seen_second = refl
+seen_in_second = refl
 
-own_of_all : map (own_in vertices value) (0 ∷ 1 ∷ 3 ∷ []) ≡ None ∷ Some (fault_at (at 2 2) (Some 2) NanLogical) ∷ None ∷ []
+own_of_all : map (own_in vertices value) (0 ∷ 1 ∷ 3 ∷ 4 ∷ []) ≡ None ∷ Some (fault_at (at 2 2) (Some 2) NanLogical) ∷ None ∷ None ∷ []
 unfolding tall talls_from
 own_of_all = refl
 
--- the scan goes on from the first block
-sums : over_first 4 ≡ rows (numbered 1 (doubles (Some (pos 0) ∷ [])))
+least_of_seen : least_fault (least_fault (own over_first) ∷ least_fault (own over_second) ∷ []) ≡ least_fault (map (own_in vertices value) (0 ∷ 1 ∷ 3 ∷ 4 ∷ []))
 unfolding tall talls_from
-sums = refl
+least_of_seen = refl
+
+-- ---- values
+
+-- the constant is the same over each block
+known_whole : map over_second (2 ∷ []) ≡ scalar (number (pos 1)) ∷ []
+unfolding tall talls_from
+known_whole = refl
+
+-- the running sum of the second block begins with the 0 of the first
+carried : behind_first 4 ≡ number (pos 0)
+unfolding tall talls_from
+carried = refl
+
+sums_of_blocks : rows_of_blocks (block_outcomes vertices value cut start blocks) 4 ≡ numbered 1 (doubles (Some (pos 0) ∷ None ∷ []))
+unfolding tall talls_from
+sums_of_blocks = refl
+
+sums_of_all : (value 4).outcome ≡ rows (numbered 1 (doubles (Some (pos 0) ∷ None ∷ [])))
+unfolding tall talls_from
+sums_of_all = refl
+
+-- ---- what is cut
+
+abbrev places : List ℕ
+places = 0 ∷ 1 ∷ 2 ∷ 3 ∷ 4 ∷ []
+
+-- the pass of level 1 with no candidate computes x, l and y, but not the running sum, of level 2; that pass computes all
+first_pass : map (cut_at 0 vertices value (levels_in value) places 1 None) places ≡ true ∷ true ∷ false ∷ true ∷ false ∷ []
+unfolding tall talls_from
+first_pass = refl
+
+second_pass : map (cut_at 0 vertices value (levels_in value) places 2 None) places ≡ true ∷ true ∷ false ∷ true ∷ true ∷ []
+unfolding tall talls_from
+second_pass = refl
+
+-- of what is needed, and numbered below the candidate; of another datastore nothing
+second_pass_of_few : map (cut_at 0 vertices value (levels_in value) (4 ∷ 0 ∷ []) 2 None) places ≡ true ∷ false ∷ false ∷ false ∷ true ∷ []
+unfolding tall talls_from
+second_pass_of_few = refl
+
+second_pass_below_a_candidate : map (cut_at 0 vertices value (levels_in value) places 2 (Some (fault_at (at 4 3) (Some 1) Inexact))) places ≡ true ∷ true ∷ false ∷ false ∷ false ∷ []
+unfolding tall talls_from
+second_pass_below_a_candidate = refl
+
+pass_of_another : map (cut_at 1 vertices value (levels_in value) places 2 None) places ≡ false ∷ false ∷ false ∷ false ∷ false ∷ []
+unfolding tall talls_from
+pass_of_another = refl

@@ -1,10 +1,10 @@
 -- Blocks: the rows of the stored columns, in as many pieces as one likes. Nothing is said of how long a block is.
-use Rattle.std.specs.Prelude.{◌≡◌, ℕ, ◌<◌, ◌≤◌, Bool, true, Some, List, [], ◌∷◌, ◌++◌, map, slice_get}
-use Rattle.tall_value.specs.Cells.{Seen}
+use Rattle.std.specs.Prelude.{◌≡◌, ℕ, ◌<◌, ◌≤◌, Bool, true, Some, List, [], ◌∷◌, ◌++◌, slice_get}
 use Rattle.tall_semantics.specs.Operations.{Made, stored, operation}
 use Rattle.tall_semantics.specs.Outcomes.{rows}
 use Rattle.tall_semantics.specs.Talls.{Columns}
 use Rattle.tall_semantics.specs.Deferred.{Vertex}
+use Rattle.tall_semantics.specs.RowsOfSpaces.{numbers_in}
 use Rattle.tall_blocks.specs.Carries.{Rows}
 
 -- the rows that a block has of each variable of each datastore
@@ -29,12 +29,9 @@ AreBlocksOf columns vs cut bs = (i : ℕ) (v : Vertex) (s a : ℕ) → slice_get
 
 -- ---- row numbers
 
-abbrev pub numbers : Rows → List ℕ
-numbers rs = map (λ (r : ℕ × Seen). r.0) rs
-
 -- the variables of a datastore have equal row numbers in a block
 abbrev pub IsTable : List Vertex → (ℕ → Bool) → Block → Type 0
-IsTable vs cut b = (i j : ℕ) (v w : Vertex) (s a o : ℕ) → slice_get vs i ≡ Some v → slice_get vs j ≡ Some w → cut i ≡ true → cut j ≡ true → IsVariable v.made s a → IsVariable w.made s o → numbers (b s a) ≡ numbers (b s o)
+IsTable vs cut b = (i j : ℕ) (v w : Vertex) (s a o : ℕ) → slice_get vs i ≡ Some v → slice_get vs j ≡ Some w → cut i ≡ true → cut j ≡ true → IsVariable v.made s a → IsVariable w.made s o → numbers_in (block_columns b s a) ≡ numbers_in (block_columns b s o)
 
 abbrev pub AreTables : List Vertex → (ℕ → Bool) → List Block → Type 0
 AreTables vs cut [] = Unit {0}

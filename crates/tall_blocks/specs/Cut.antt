@@ -1,10 +1,10 @@
 -- Which values a pass over a datastore computes block by block: `cut` tells their places in the list of vertices. All other
 -- values are known as a whole before the pass, and are the same over each block.
-use Rattle.std.specs.Prelude.{◌≡◌, ◌==◌, ℕ, ◌⊎◌, Bool, true, false, Some, List, [], ◌∷◌, length, slice_get}
+use Rattle.std.specs.Prelude.{◌≡◌, ℕ, ◌⊎◌, Bool, true, false, Some, List, [], ◌∷◌, length, slice_get}
 use Rattle.tall_value.specs.Cells.{Seen}
 use Rattle.tall_semantics.specs.Operations.{unary, binary, filter, scan, Made, stored, operation}
 use Rattle.tall_semantics.specs.Outcomes.{Outcome, rows, scalar}
-use Rattle.tall_semantics.specs.Spaces.{Space, rows_of, kept, is_single}
+use Rattle.tall_semantics.specs.Spaces.{is_single, store_of}
 use Rattle.tall_semantics.specs.Talls.{Tall}
 use Rattle.tall_semantics.specs.Deferred.{Vertex, IsAmong}
 use Rattle.tall_blocks.specs.Carries.{Rows}
@@ -38,15 +38,9 @@ pub record IsCutWork (vs : List Vertex) (cut : ℕ → Bool) (P : ℕ → Type 0
 
 -- ---- by the space
 
--- the space has the datastore's rows: all of them, or those that masks keep
-abbrev pub in_store : (store : ℕ) → Space → Bool
-in_store s (rows_of t) = s == t
-in_store s (kept space mask) = in_store s space
-in_store s space = false
-
 -- what is cut has rows of the datastore; each operand that has them is cut too, and a scalar among the operands is known
 -- and has no fault
 pub record AreOfStore (store : ℕ) (vs : List Vertex) (f : ℕ → Tall) (cut : ℕ → Bool) : Type 0 where
-  pub rows_here : (i : ℕ) (v : Vertex) → slice_get vs i ≡ Some v → cut i ≡ true → in_store store (f i).shape.space ≡ true
-  pub operands_cut : (i a : ℕ) (v : Vertex) → slice_get vs i ≡ Some v → cut i ≡ true → IsAmong v.args a → in_store store (f a).shape.space ≡ true → cut a ≡ true
+  pub rows_here : (i : ℕ) (v : Vertex) → slice_get vs i ≡ Some v → cut i ≡ true → store_of (f i).shape.space ≡ Some store
+  pub operands_cut : (i a : ℕ) (v : Vertex) → slice_get vs i ≡ Some v → cut i ≡ true → IsAmong v.args a → store_of (f a).shape.space ≡ Some store → cut a ≡ true
   pub scalars_known : (i a : ℕ) (v : Vertex) → slice_get vs i ≡ Some v → cut i ≡ true → IsAmong v.args a → is_single (f a).shape.space ≡ true → IsKnownScalar f cut a

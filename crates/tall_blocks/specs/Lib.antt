@@ -1,6 +1,16 @@
 pub mod Carries
+pub mod RowPlaces
 pub mod Blocks
 pub mod Cut
 pub mod ValuesOver
 pub mod SeenFaults
+pub mod PassWork
+pub mod Folds
+pub mod GroupsOver
+pub mod FoldsOfBlocks
+pub mod BlockSamples
 pub mod BlockRows
+pub mod CarryRows
+pub mod FoldRows
+pub mod GroupsOverRows
+pub mod RowPlaceRows

@@ -19,8 +19,8 @@ AreSeen vs f cut P carries [] cs = cs ≡ []
 AreSeen vs f cut P carries (b ∷ bs) [] = ⊥
 AreSeen vs f cut P carries (b ∷ bs) (c ∷ cs) = (h : ℕ → Outcome) × IsOver (block_columns b) carries vs f cut h × IsLeast (own_in vs (value_over f h)) P c × AreSeen vs f cut P (next_carries vs f h carries) bs cs
 
--- what a pass over the blocks of a datastore stands on
-pub record IsPass (columns : Columns) (of_stores : ℕ → List ℕ) (vs : List Vertex) (f : ℕ → Tall) (store : ℕ) (cut : ℕ → Bool) (bs : List Block) : Type 0 where
+-- what a pass over a datastore stands on that computes block by block what is cut
+pub record IsBlockwise (columns : Columns) (of_stores : ℕ → List ℕ) (vs : List Vertex) (f : ℕ → Tall) (store : ℕ) (cut : ℕ → Bool) (bs : List Block) : Type 0 where
   pub meaning : IsMeaning columns vs f
   pub ordered : IsOrdered vs
   pub numbered : AreNumbered vs

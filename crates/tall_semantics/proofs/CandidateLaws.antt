@@ -141,7 +141,7 @@ module _ (vs : List Vertex) (f : ℕ → Tall) (levels : ℕ → ℕ) (ordered :
       let more = along a l b.0 b.1 d in
       (omega (arith, one.0, more.0), omega (arith, one.1, more.1))
 
-further : (vs : List Vertex) (r i j : ℕ) → DependsOn vs r i → DependsOn vs i j → DependsOn vs r j
+pub further : (vs : List Vertex) (r i j : ℕ) → DependsOn vs r i → DependsOn vs i j → DependsOn vs r j
 further vs r i j (itself k) d = d
 further vs r i j (through k a l v e among c) d = through k a j v e among (further vs a l j c d)
 

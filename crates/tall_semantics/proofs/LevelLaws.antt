@@ -20,7 +20,7 @@ joined own P Q c d p q = record {
   ];
 }
 
-among_both : (xs ys : List ℕ) (a : ℕ) → IsAmong (xs ++ ys) a ↔ (IsAmong xs a ⊎ IsAmong ys a)
+pub among_both : (xs ys : List ℕ) (a : ℕ) → IsAmong (xs ++ ys) a ↔ (IsAmong xs a ⊎ IsAmong ys a)
 among_both [] ys a = (λ h. inr h, λ h. elim h [ inl n ↦ absurd n | inr y ↦ y ])
 among_both (x ∷ xs) ys a = (
   λ h. elim h [

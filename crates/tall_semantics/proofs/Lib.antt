@@ -15,7 +15,11 @@ pub mod TreeLaws
 pub mod MeaningLaws
 pub mod FitLaws
 pub mod RowNumberLaws
+pub mod ClassLaws
 pub mod ShapesInOrderLaws
+pub mod ReachLaws
+pub mod ChainLaws
 pub mod AdditionLaws
 pub mod SampleLaws
 pub mod SpaceLaws
+pub mod PlanLaws

@@ -4,7 +4,7 @@ use Rattle.std.proofs.Common.{ap, ◌∙◌, arith, inl}
 use Rattle.std.proofs.lemmas.Bool.Decides.{nat_tests}
 use Rattle.tall_semantics.specs.Passes.{Pass, pass_of, passes_at, passes_up_to, of_store}
 
-joined : (s : ℕ) (ps qs : List Pass) → of_store s (ps ++ qs) ≡ of_store s ps + of_store s qs
+pub joined : (s : ℕ) (ps qs : List Pass) → of_store s (ps ++ qs) ≡ of_store s ps + of_store s qs
 joined s [] qs = omega (arith)
 joined s (p ∷ ps) qs = ap (λ n. (if p.store == s then 1 else 0) + n) (joined s ps qs) ∙ omega (arith)
 

@@ -15,14 +15,14 @@ abbrev pub IsOneOf : List Shape → Shape → Type 0
 IsOneOf [] x = ⊥
 IsOneOf (y ∷ ys) x = (y ≡ x) ⊎ IsOneOf ys x
 
-below_greatest : (xs : List Shape) (x : Shape) → IsOneOf xs x → level x ≤ greatest_level xs
+pub below_greatest : (xs : List Shape) (x : Shape) → IsOneOf xs x → level x ≤ greatest_level xs
 below_greatest [] x h = absurd h
 below_greatest (y ∷ ys) x h = elim h [
   | inl e ↦ subst (λ z. level z ≤ max (level y) (greatest_level ys)) e (grind (arith))
   | inr r ↦ (let q : level x ≤ greatest_level ys = below_greatest ys x r in grind (arith, q))
 ]
 
-below_chains : (xs : List Shape) (x : Shape) → IsOneOf xs x → x.chain ≤ greatest_chain xs
+pub below_chains : (xs : List Shape) (x : Shape) → IsOneOf xs x → x.chain ≤ greatest_chain xs
 below_chains [] x h = absurd h
 below_chains (y ∷ ys) x h = elim h [
   | inl e ↦ subst (λ (z : Shape). z.chain ≤ max y.chain (greatest_chain ys)) e (grind (arith))
@@ -206,7 +206,7 @@ two_operands g v x y e i j h = to_first g v x e i (from_first g v y e j h)
 summary_spaces : (m : Method) (part : Part) (g v : Shape) (p : Class × Space) → placed (group_class m part g.class v.class) (summarised m g v) ≡ place_ok p → g.space ≡ v.space
 summary_spaces m part g v p h = (spaces_decided g.space v.space).0 (tested (same_space g.space v.space) (groups m g.tree (Some v.tree)) p.1 (placed_is (group_class m part g.class v.class) (summarised m g v) p h)).0
 
-group_spaces : (m : Method) (part : Part) (g v : Shape) (p : Class × Space) → summary m part g v ≡ place_ok p → g.space ≡ v.space
+pub group_spaces : (m : Method) (part : Part) (g v : Shape) (p : Class × Space) → summary m part g v ≡ place_ok p → g.space ≡ v.space
 group_spaces Count part g v p h = absurd (cc)
 group_spaces Sum part g v p h = summary_spaces Sum part g v p h
 group_spaces SumNative part g v p h = summary_spaces SumNative part g v p h
@@ -253,10 +253,10 @@ all_rows (group m part) (g ∷ []) p h x y i j r n = one_operand g x y i j r
 all_rows (group m part) (g ∷ v ∷ []) p h x y i j r n = two_operands g v x y (group_spaces m part g v p (column_is v (summary m part g v) p (column_is g (on_column v (summary m part g v)) p h))) i j r
 all_rows (group m part) (g ∷ v ∷ w ∷ ws) p h x y i j r n = absurd (refused p h)
 
-chain_level : (xs : List Shape) (x : Shape) → IsOneOf xs x → x.chain ≤ greatest_level xs
+pub chain_level : (xs : List Shape) (x : Shape) → IsOneOf xs x → x.chain ≤ greatest_level xs
 chain_level xs x i = (let q : level x ≤ greatest_level xs = below_greatest xs x i in let r : x.chain ≤ level x = raise (has_rows x.space) x.chain x.chain (omega (arith)) in omega (arith, q, r))
 
-chain_below : (op : Op) (xs : List Shape) (x : Shape) → IsOneOf xs x → x.chain ≤ chain_of op xs
+pub chain_below : (op : Op) (xs : List Shape) (x : Shape) → IsOneOf xs x → x.chain ≤ chain_of op xs
 chain_below (constant c) xs x i = below_chains xs x i
 chain_below (binary op) xs x i = below_chains xs x i
 chain_below (unary op) xs x i = below_chains xs x i

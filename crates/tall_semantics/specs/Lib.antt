@@ -11,11 +11,15 @@ pub mod Least
 pub mod Deferred
 pub mod InOrder
 pub mod ShapesInOrder
+pub mod Reach
+pub mod Chains
 pub mod Levels
 pub mod Numbered
 pub mod Additions
 pub mod Ranks
 pub mod Passes
+pub mod Plans
+pub mod ClassesOfCells
 pub mod RowsOfSpaces
 pub mod Samples
 pub mod GraphSamples
@@ -26,3 +30,4 @@ pub mod FaultRows
 pub mod SpaceRows
 pub mod DeferredRows
 pub mod GraphRows
+pub mod PlanRows

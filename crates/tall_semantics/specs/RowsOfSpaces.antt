@@ -15,6 +15,7 @@ use Rattle.tall_semantics.specs.Shapes.{Shape}
 use Rattle.tall_semantics.specs.Talls.{Tall, Columns, tall, stored_tall}
 use Rattle.tall_semantics.specs.Deferred.{Vertex}
 use Rattle.tall_semantics.specs.InOrder.{or_blank}
+use Rattle.tall_semantics.specs.ClassesOfCells.{HaveClass}
 
 -- an expression that no script has, for values without a fault, where it doesn't matter which it is
 abbrev pub nowhere : At
@@ -40,10 +41,11 @@ row_numbers columns of_stores (last k s) = let ns = row_numbers columns of_store
 row_numbers columns of_stores (distinct x) = numbers_in (rows (values.distinct_rows (cells_in (tree_tall columns x).outcome)))
 row_numbers columns of_stores (groups m key of_data) = numbers_in (rows (numbered 1 (group_keys (cells_in (tree_tall columns key).outcome))))
 
--- the stored columns are no scalars, and those of one datastore have its rows
+-- the stored columns are no scalars, those of one datastore have its rows, and each has cells of its class
 pub record AreColumns (columns : Columns) (of_stores : ℕ → List ℕ) (vs : List Vertex) : Type 0 where
   pub no_scalar : (i : ℕ) (v : Vertex) (s a : ℕ) (c : Class) (x : Seen) → slice_get vs i ≡ Some v → v.made ≡ stored s a c → columns s a ≡ scalar x → ⊥
   pub same_rows : (i : ℕ) (v : Vertex) (s a : ℕ) (c : Class) → slice_get vs i ≡ Some v → v.made ≡ stored s a c → fault_of (columns s a) ≡ None → numbers_in (columns s a) ≡ of_stores s
+  pub classes : (i : ℕ) (v : Vertex) (s a : ℕ) (c : Class) → slice_get vs i ≡ Some v → v.made ≡ stored s a c → HaveClass c (columns s a)
 
 -- a value is a scalar exactly where its space says so
 abbrev pub Fits : Shape → Outcome → Type 0

@@ -1,5 +1,5 @@
 -- Spaces: which rows a value has. Two values of one space have the same rows; a space is told by what it was made from.
-use Rattle.std.specs.Prelude.{ℕ, Bool, true, false, Option}
+use Rattle.std.specs.Prelude.{ℕ, Bool, true, false, Option, None, Some}
 use Rattle.tall_value.specs.declared.functions.Method.{Method}
 use Rattle.tall_semantics.specs.Operations.{Tree}
 
@@ -27,3 +27,9 @@ abbrev pub has_rows : Space → Bool
 has_rows (rows_of store) = true
 has_rows (kept s mask) = has_rows s
 has_rows s = false
+
+-- the datastore whose rows the space has
+abbrev pub store_of : Space → Option ℕ
+store_of (rows_of store) = Some store
+store_of (kept s mask) = store_of s
+store_of s = None

@@ -1,6 +1,7 @@
 //! Laws of the definitions, each the contract of a function without a body.
 ghost use Rattle.std.specs.Prelude.{◌≡◌, ◌≤◌, ◌+◌, ◌++◌, ◌⊎◌, ◌↔◌, ℕ, List, [], ◌∷◌, length, map, Option, None, Some, Ok, slice_get};
 ghost use Rattle.std.specs.Bool.{Decides};
+ghost use Rattle.tall_semantics.specs.ClassesOfCells.{HaveClass};
 ghost use Rattle.tall_semantics.specs.Deferred.{AllBelow, AreThere, DependsOn, IsAmong, IsMeaning, IsOrdered, Under, Vertex, fault_in, least_in, own_in};
 ghost use Rattle.tall_semantics.specs.DeferredRows.{added, both_columns};
 ghost use Rattle.tall_semantics.specs.Equality.{same_op, same_space, same_tree};
@@ -57,6 +58,12 @@ pub fn values_have_the_rows_of_their_space()
         → (i : ℕ) (v : Vertex) → slice_get vs i ≡ Some v → fault_in f i ≡ None → numbers_in (f i).outcome ≡ row_numbers columns of_stores (f i).shape.space }
     ensures told { (columns : Columns) (of_stores : ℕ → List ℕ) (vs : List Vertex) (f : ℕ → Tall) → IsMeaning columns vs f → IsOrdered vs → AreColumns columns of_stores vs
         → (i : ℕ) (v : Vertex) → slice_get vs i ≡ Some v → fault_in f i ≡ None → tree_tall columns (f i).shape.tree ≡ f i }
+{}
+
+/// Each cell of a value has the class of its shape.
+pub fn values_have_their_class()
+    ensures { (columns : Columns) (of_stores : ℕ → List ℕ) (vs : List Vertex) (f : ℕ → Tall) → IsMeaning columns vs f → IsOrdered vs → AreColumns columns of_stores vs
+        → (i : ℕ) (v : Vertex) → slice_get vs i ≡ Some v → HaveClass (f i).shape.class (f i).outcome }
 {}
 
 /// A value's fault is the least of the own faults of all that it depends on, and the least fault of several values is

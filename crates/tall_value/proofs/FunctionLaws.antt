@@ -30,10 +30,10 @@ use Rattle.tall_value.specs.FunctionClasses.{ordered_kind, logical_kind, reducti
 use Rattle.tall_int.specs.Doubles.{whole_add}
 use Rattle.tall_value.proofs.KindLaws.{same_ok, double_kind, number_ok, to_double_kind, unary_law, binary_law}
 
-given : (d c : Seen) → ◌≡◌ {A = Result Seen FaultKind} (Ok d) (Ok c) → seen_kind c ≡ seen_kind d
+pub given : (d c : Seen) → ◌≡◌ {A = Result Seen FaultKind} (Ok d) (Ok c) → seen_kind c ≡ seen_kind d
 given d c e = sym (ap seen_kind (same_ok d c e))
 
-ordered_ok : (k j : Kind) → ordered_kind k ≡ Ok j → k ≡ j
+pub ordered_ok : (k j : Kind) → ordered_kind k ≡ Ok j → k ≡ j
 ordered_ok (Integer i) j h = same_ok (Integer i) j h
 ordered_ok Logical j h = absurd cc
 ordered_ok Double j h = same_ok Double j h
@@ -47,16 +47,16 @@ logical_ok Text j h = absurd cc
 
 -- ---- sums
 
-exact_of : (r : Result Seen CellFault) (c : Seen) → or_fault r ≡ Ok c → r ≡ Ok c
+pub exact_of : (r : Result Seen CellFault) (c : Seen) → or_fault r ≡ Ok c → r ≡ Ok c
 exact_of (Ok d) c e = ap (λ (x : Seen). Ok x) (same_ok d c e)
 exact_of (Err f) c e = absurd cc
 
-exact_kind : (cs : List Seen) (c : Seen) → exact_total cs ≡ Ok c → HasKind Double c
+pub exact_kind : (cs : List Seen) (c : Seen) → exact_total cs ≡ Ok c → HasKind Double c
 exact_kind cs c e =
     let d = (if list_any is_nan cs then None else Some (total (filter_map amount cs)))
     in to_double_kind d c (exact_of (to_double d) c e)
 
-native_kind : (k j : Kind) (cs : List Seen) (c : Seen) → ordered_kind k ≡ Ok j → native_total k cs ≡ Ok c → HasKind j c
+pub native_kind : (k j : Kind) (cs : List Seen) (c : Seen) → ordered_kind k ≡ Ok j → native_total k cs ≡ Ok c → HasKind j c
 native_kind (Integer i) j cs c h e = given (whole i _) c e ∙ same_ok (Integer i) j h
 native_kind Logical j cs c h e = absurd cc
 native_kind Double j cs c h e = exact_kind cs c e ∙ same_ok Double j h
@@ -68,13 +68,13 @@ one_of : (b : Bool) (k : Kind) (c d : Seen) → HasKind k c → HasKind k d → 
 one_of true k c d p q = q
 one_of false k c d p q = p
 
-lesser_kind : (k : Kind) (c d : Seen) → HasKind k c → HasKind k d → HasKind k (lesser c d)
+pub lesser_kind : (k : Kind) (c d : Seen) → HasKind k c → HasKind k d → HasKind k (lesser c d)
 lesser_kind k c d p q = one_of (is_lt (cell_order d c)) k c d p q
 
-greater_kind : (k : Kind) (c d : Seen) → HasKind k c → HasKind k d → HasKind k (greater c d)
+pub greater_kind : (k : Kind) (c d : Seen) → HasKind k c → HasKind k d → HasKind k (greater c d)
 greater_kind k c d p q = one_of (is_lt (cell_order c d)) k c d p q
 
-fold_kind : (f : Seen → Seen → Seen) (k : Kind) → ((c d : Seen) → HasKind k c → HasKind k d → HasKind k (f c d)) → (c : Seen) (ds : List Seen) → HasKind k c → All (HasKind k) ds → HasKind k (fold f c ds)
+pub fold_kind : (f : Seen → Seen → Seen) (k : Kind) → ((c d : Seen) → HasKind k c → HasKind k d → HasKind k (f c d)) → (c : Seen) (ds : List Seen) → HasKind k c → All (HasKind k) ds → HasKind k (fold f c ds)
 fold_kind f k keeps c [] p all = p
 fold_kind f k keeps c (d ∷ ds) p all = fold_kind f k keeps (f c d) ds (keeps c d p (All-head (HasKind k) d ds all)) (All-tail (HasKind k) d ds all)
 
@@ -209,25 +209,25 @@ scalar_right_kind op x k j rows outs all h e =
 
 -- ---- distinct values
 
-by_order_all : (k : Kind) (o : Ordering) (a b c : List Seen) → All (HasKind k) a → All (HasKind k) b → All (HasKind k) c → All (HasKind k) (by_order o a b c)
-by_order_all k Less a b c p q r = p
-by_order_all k Equal a b c p q r = q
-by_order_all k Greater a b c p q r = r
+by_order_all : (P : Seen → Type 0) (o : Ordering) (a b c : List Seen) → All P a → All P b → All P c → All P (by_order o a b c)
+by_order_all P Less a b c p q r = p
+by_order_all P Equal a b c p q r = q
+by_order_all P Greater a b c p q r = r
 
-insert_kind : (k : Kind) (c : Seen) (ds : List Seen) → HasKind k c → All (HasKind k) ds → All (HasKind k) (insert c ds)
-insert_kind k c [] p all = All-cons (HasKind k) c [] p (All-nil (HasKind k))
-insert_kind k c (d ∷ ds) p all =
-    by_order_all k (cell_order c d) (c ∷ d ∷ ds) (d ∷ ds) (d ∷ insert c ds)
-    (All-cons (HasKind k) c (d ∷ ds) p all)
+insert_all : (P : Seen → Type 0) (c : Seen) (ds : List Seen) → P c → All P ds → All P (insert c ds)
+insert_all P c [] p all = All-cons P c [] p (All-nil P)
+insert_all P c (d ∷ ds) p all =
+    by_order_all P (cell_order c d) (c ∷ d ∷ ds) (d ∷ ds) (d ∷ insert c ds)
+    (All-cons P c (d ∷ ds) p all)
     all
-    (All-cons (HasKind k) d (insert c ds) (All-head (HasKind k) d ds all) (insert_kind k c ds p (All-tail (HasKind k) d ds all)))
+    (All-cons P d (insert c ds) (All-head P d ds all) (insert_all P c ds p (All-tail P d ds all)))
 
-ascending_kind : (k : Kind) (cs : List Seen) → All (HasKind k) cs → All (HasKind k) (ascending cs)
-ascending_kind k [] all = All-nil (HasKind k)
-ascending_kind k (c ∷ cs) all = insert_kind k c (ascending cs) (All-head (HasKind k) c cs all) (ascending_kind k cs (All-tail (HasKind k) c cs all))
+pub ascending_all : (P : Seen → Type 0) (cs : List Seen) → All P cs → All P (ascending cs)
+ascending_all P [] all = All-nil P
+ascending_all P (c ∷ cs) all = insert_all P c (ascending cs) (All-head P c cs all) (ascending_all P cs (All-tail P c cs all))
 
 pub distinct_kind : (k : Kind) (cs : List Seen) → All (HasKind k) cs → All (HasKind k) (distinct cs)
 distinct_kind k cs all =
     All-append (HasKind k) (ascending (present cs)) (filter is_nan cs)
-    (ascending_kind k (present cs) (All-filter is_present (HasKind k) cs all))
+    (ascending_all (HasKind k) (present cs) (All-filter is_present (HasKind k) cs all))
     (All-filter is_nan (HasKind k) cs all)

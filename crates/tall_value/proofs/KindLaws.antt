@@ -192,7 +192,7 @@ unary_law IsNan x c k h e = logical_kind _ c k e (number_ok (seen_kind x) Logica
 
 -- ---- the same over classes
 
-kind_again : (k : Kind) → kind_of (class_of k) ≡ k
+pub kind_again : (k : Kind) → kind_of (class_of k) ≡ k
 kind_again (Integer Int8) = refl
 kind_again (Integer Int16) = refl
 kind_again (Integer Int32) = refl

@@ -1,3 +1,4 @@
 pub mod OrderLaws
 pub mod KindLaws
 pub mod FunctionLaws
+pub mod GroupLaws

@@ -17,6 +17,7 @@ pub mod Index
 pub mod Distinct
 pub mod Groups
 pub mod GroupSummary
+pub mod GroupKinds
 pub mod SummaryNames
 pub mod FaultOrder
 pub mod ClassRows

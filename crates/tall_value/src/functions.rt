@@ -1,5 +1,5 @@
 //! The functions of whole columns.
-ghost use Rattle.std.specs.Prelude.{◌≡◌, List, Ok, false, true, ℕ};
+ghost use Rattle.std.specs.Prelude.{◌≡◌, List, Ok, false, length, true, ℕ};
 ghost use Rattle.std.specs.List.{All};
 ghost use Rattle.tall_value.specs.declared.class.Kind.{Kind};
 ghost use Rattle.tall_value.specs.Cells.{Seen, seen_kind};
@@ -7,7 +7,9 @@ ghost use Rattle.tall_value.specs.ClassTables.{binary_kind, unary_kind};
 ghost use Rattle.tall_value.specs.Columns.{HasKind, RowHasKind};
 ghost use Rattle.tall_value.specs.Distinct.{distinct};
 ghost use Rattle.tall_value.specs.Elementwise.{binary_rows, scalar_rows, unary_rows};
-ghost use Rattle.tall_value.specs.FunctionClasses.{reduction_kind, scan_kind};
+ghost use Rattle.tall_value.specs.FunctionClasses.{reduction_kind, scan_kind, summary_kinds};
+ghost use Rattle.tall_value.specs.GroupKinds.{HaveKinds};
+ghost use Rattle.tall_value.specs.GroupSummary.{summary_columns};
 ghost use Rattle.tall_value.specs.Reductions.{reduced};
 ghost use Rattle.tall_value.specs.Scans.{scanned};
 
@@ -74,4 +76,9 @@ pub fn columns_have_their_kind()
     ensures reduced { (r : Reduction) (k j : Kind) (cs : List Seen) (c : Seen) → All (HasKind k) cs → reduction_kind r k ≡ Ok j → reduced r k cs ≡ Ok c → HasKind j c }
     ensures scanned { (s : Scan) (k j : Kind) (rows outs : List (ℕ × Seen)) → All (RowHasKind k) rows → scan_kind s k ≡ Ok j → scanned s k rows ≡ Ok outs → All (RowHasKind j) outs }
     ensures distinct { (k : Kind) (cs : List Seen) → All (HasKind k) cs → All (HasKind k) (distinct cs) }
+{}
+
+/// The columns of `groupsummary` have the kinds that its table of classes says: the key, the counts, the values.
+pub fn groups_have_their_kinds()
+    ensures { (m : Method) (key a : Kind) (kinds : List Kind) (keys data' : List Seen) (columns : List (List Seen)) → length keys ≡ length data' → All (HasKind key) keys → All (HasKind a) data' → summary_kinds m key a ≡ Ok kinds → summary_columns m a keys data' ≡ Ok columns → HaveKinds kinds columns }
 {}

@@ -21,7 +21,7 @@ pub use class::{Class, IntKind, Kind};
 pub use class_tables::{result_class, unary_class};
 pub use compute::{binary, results_have_their_class, unary};
 pub use faults::{CellFault, ClassFault, Fault, FaultKind, ReadingKind};
-pub use functions::{Method, Reduction, Scan, columns_have_their_kind};
+pub use functions::{Method, Reduction, Scan, columns_have_their_kind, groups_have_their_kinds};
 pub use operators::{Binary, Unary};
 pub use ordering::{cells_are_ordered, order};
 pub use owned::{Name, Owned, Text};

@@ -1,0 +1,213 @@
+-- The values of a pass at one level can be cut into blocks, and the least own fault among them is that of the level's work.
+use Rattle.std.specs.Prelude.{◌≡◌, refl, ℕ, ◌<◌, ◌≤◌, ◌+◌, ◌*◌, ◌==◌, ◌&&◌, not, nat_lt, ◌↔◌, Bool, true, false, Option, None, Some, List, [], ◌∷◌, map, slice_get}
+use Rattle.std.proofs.Common.{ap, sym, subst, ◌∙◌, arith, inl, inr}
+use Rattle.std.proofs.lemmas.Bool.Decides.{nat_tests}
+use Rattle.tall_semantics.specs.Operations.{Made, stored, operation}
+use Rattle.tall_semantics.specs.Spaces.{Space, single, rows_of, kept, first, last, groups, is_single, has_rows, store_of}
+use Rattle.tall_semantics.specs.Spaces as spaces
+use Rattle.tall_semantics.specs.Faults.{Fault}
+use Rattle.tall_semantics.specs.Outcomes.{Outcome, rows, scalar, fault, fault_of}
+use Rattle.tall_semantics.specs.Shapes.{Shape, level}
+use Rattle.tall_semantics.specs.Talls.{Tall, Columns, shapes, made_tall}
+use Rattle.tall_semantics.specs.Deferred.{Vertex, IsMeaning, IsAmong, DependsOn, itself, through, fault_in, own_in}
+use Rattle.tall_semantics.specs.Least.{AtMost, IsLeast, IsBelow}
+use Rattle.tall_semantics.specs.Levels.{UpTo}
+use Rattle.tall_semantics.specs.Numbered.{nodes_by, number_at, levels_in, IsGather}
+use Rattle.tall_semantics.specs.Ranks.{is_in_pass, rank, rank_at, ranks_in}
+use Rattle.tall_semantics.specs.RowsOfSpaces.{AreColumns, Fits}
+use Rattle.tall_semantics.proofs.Basics.{both}
+use Rattle.tall_semantics.proofs.CandidateLaws.{further, known_no_fault}
+use Rattle.tall_semantics.proofs.LevelLaws.{split}
+use Rattle.tall_semantics.proofs.MeaningLaws.{tall_ok, made_value, tall_shape}
+use Rattle.tall_semantics.proofs.OrderLaws.{by_number}
+use Rattle.tall_semantics.proofs.OriginLaws.{get_before, below_among}
+use Rattle.tall_semantics.specs.Plans.{is_among, is_store}
+use Rattle.tall_semantics.proofs.ReachLaws.{any_of, of_any}
+use Rattle.tall_semantics.proofs.ShapeLaws.{IsOneOf, lesser_level}
+use Rattle.tall_semantics.proofs.SpaceLaws.{value_fits}
+use Rattle.tall_semantics.proofs.VariantLaws.{number_is, same_number}
+use Rattle.tall_blocks.specs.Cut.{IsScalar, IsCutWork, AreOfStore}
+use Rattle.tall_blocks.specs.PassWork.{IsCutAt, IsWorkOf, AreScalarsLower, is_below, cut_at}
+use Rattle.tall_blocks.proofs.CutLaws.{not_single}
+
+-- ---- spaces
+
+store_rows : (s : ℕ) (u : Space) → store_of u ≡ Some s → has_rows u ≡ true
+store_rows s single e = absurd (cc)
+store_rows s (rows_of t) e = refl
+store_rows s (kept u t) e = store_rows s u e
+store_rows s (first k u) e = absurd (cc)
+store_rows s (last k u) e = absurd (cc)
+store_rows s (spaces.distinct t) e = absurd (cc)
+store_rows s (groups m k d) e = absurd (cc)
+
+no_rows : (u : Space) → is_single u ≡ true → has_rows u ≡ false
+no_rows single e = refl
+no_rows (rows_of t) e = absurd (cc)
+no_rows (kept u t) e = absurd (cc)
+no_rows (first k u) e = refl
+no_rows (last k u) e = refl
+no_rows (spaces.distinct t) e = refl
+no_rows (groups m k d) e = refl
+
+scalar_fits : (s : Shape) (x : Outcome) → is_single s.space ≡ true → Fits s x → fault_of x ≡ None → IsScalar x
+scalar_fits s (rows rs) e fits n = absurd (cc)
+scalar_fits s (scalar c) e fits n = (c, refl)
+scalar_fits s (fault f) e fits n = absurd (cc)
+
+-- ---- numbers and candidates
+
+below_more : (c : Option Fault) (m n : ℕ) → m ≤ n → IsBelow c n → IsBelow c m
+below_more None m n l h = tt
+below_more (Some x) m n l h = omega (arith, l, h)
+
+beyond : (c : Option Fault) (x : Fault) (n : ℕ) → AtMost c x → x.number ≡ n → IsBelow c n → ⊥
+beyond None x n h e b = h
+beyond (Some z) x n h e b = (let q : z.number ≤ x.number = by_number z x h in omega (arith, q, e, b))
+
+one_of : (f : ℕ → Tall) (args : List ℕ) (a : ℕ) → IsAmong args a → IsOneOf (shapes (map f args)) (f a).shape
+one_of f [] a h = absurd h
+one_of f (b ∷ args) a h = elim h [ inl e ↦ inl (ap (λ j. (f j).shape) e) | inr r ↦ inr (one_of f args a r) ]
+
+-- ---- scalars have lower levels, and lower ranks
+
+module _ (columns : Columns) (vs : List Vertex) (f : ℕ → Tall) (meaning : IsMeaning columns vs f) where
+  lower_made : (i a : ℕ) (v : Vertex) (m : Made) → slice_get vs i ≡ Some v → v.made ≡ m → IsAmong v.args a → is_single (f a).shape.space ≡ true → has_rows (f i).shape.space ≡ true → level (f a).shape + 1 ≤ level (f i).shape
+  lower_made i a v (stored s b c) e q among single_a rows_i = absurd (none v.args among (subst (λ m. made_tall columns v.at m (map f v.args) ≡ tall_ok (f i)) q (meaning i v e)))
+    where
+      none : (args : List ℕ) → IsAmong args a → made_tall columns v.at (stored s b c) (map f args) ≡ tall_ok (f i) → ⊥
+      none [] among h = among
+      none (d ∷ args) among h = cc
+  lower_made i a v (operation op) e q among single_a rows_i =
+      lesser_level op (shapes (map f v.args)) (f i).shape (f a).shape (tall_shape v.at op (map f v.args) (f i) (made_value columns vs f meaning i v op e q)) (one_of f v.args a among) (no_rows (f a).shape.space single_a) rows_i
+
+  pub lower_levels : AreScalarsLower vs f (levels_in f)
+  lower_levels i a v e among single_a rows_i = (let h = lower_made i a v v.made e refl among single_a rows_i in omega (arith, h))
+
+  most_rank : (b : Bool) (s : Shape) → rank b s ≤ 2 * level s + 1
+  most_rank true s = omega (arith)
+  most_rank false s = omega (arith)
+
+  most_at : (o : Option Vertex) (a : ℕ) → rank_at f o a ≤ 2 * level (f a).shape + 1
+  most_at None a = omega (arith)
+  most_at (Some w) a = most_rank (is_in_pass f w a) (f a).shape
+
+  least_rank : (b : Bool) (s : Shape) → 2 * level s ≤ rank b s
+  least_rank true s = omega (arith)
+  least_rank false s = omega (arith)
+
+  least_at : (o : Option Vertex) (v : Vertex) (i : ℕ) → o ≡ Some v → 2 * level (f i).shape ≤ rank_at f o i
+  least_at o v i e = subst (λ w. 2 * level (f i).shape ≤ rank_at f w i) (sym e) (least_rank (is_in_pass f v i) (f i).shape)
+
+  pub lower_ranks : AreScalarsLower vs f (ranks_in vs f)
+  lower_ranks i a v e among single_a rows_i =
+      let h = lower_made i a v v.made e refl among single_a rows_i in
+      let m : ranks_in vs f a ≤ 2 * level (f a).shape + 1 = most_at (slice_get vs a) a in
+      let l : 2 * level (f i).shape ≤ ranks_in vs f i = least_at (slice_get vs i) v i e in
+      omega (arith, h, m, l)
+
+-- ---- the values of a pass
+
+module _ (columns : Columns) (of_stores : ℕ → List ℕ) (vs : List Vertex) (f : ℕ → Tall) (levels : ℕ → ℕ) (roots needed : List ℕ) (gather : IsGather columns vs f levels roots needed)
+    (store k : ℕ) (c : Option Fault) (candidate : IsLeast (own_in vs f) (UpTo (nodes_by vs f levels) (IsAmong needed) k) c) (cut : ℕ → Bool) (cuts : IsCutAt store vs f levels needed (k + 1) c cut) where
+  needed_operand : (i a : ℕ) (v : Vertex) → slice_get vs i ≡ Some v → IsAmong needed i → IsAmong v.args a → IsAmong needed a
+  needed_operand i a v e n among = (let r = (gather.under i).0 n in (gather.under a).1 (r.0, r.1, further vs r.0 i a r.2 (through i a a v e among (itself a))))
+
+  -- an operand is needed, and has no greater level and number
+  operand_at : (i a : ℕ) (v : Vertex) → slice_get vs i ≡ Some v → cut i ≡ true → IsAmong v.args a → IsAmong needed a × (levels a ≤ levels i) × (levels i ≤ k + 1) × IsBelow c (number_at (slice_get vs a))
+  operand_at i a v e is_cut among =
+      let w = (cuts i).0 is_cut in
+      let b = get_before vs i a v e (below_among i v.args a (gather.ordered i v e) among) in
+      let before = gather.levelled.operands i a v b.0 e among b.1 in
+      (needed_operand i a v e w.1.0 among, before.1, w.1.1, below_more c (number_at (slice_get vs a)) (number_at (slice_get vs i)) before.0 w.2)
+
+  pub level_of_store : AreColumns columns of_stores vs → AreScalarsLower vs f levels → AreOfStore store vs f cut
+  level_of_store readings lower = record {
+    rows_here = λ i v e is_cut. ((cuts i).0 is_cut).0;
+    operands_cut = λ i a v e is_cut among here. (let w = operand_at i a v e is_cut among in (cuts a).1 (here, (w.0, omega (arith, w.1, w.2)), w.3));
+    scalars_known = λ i a v e is_cut among single_a.
+        let w = operand_at i a v e is_cut among in
+        let b = get_before vs i a v e (below_among i v.args a (gather.ordered i v e) among) in
+        let less : levels a < levels i = lower i a v e among single_a (store_rows store (f i).shape.space ((cuts i).0 is_cut).0) in
+        let none : fault_in f a ≡ None = known_no_fault columns vs f levels roots needed gather k c candidate a b.0 b.1 (w.0, omega (arith, less, w.2)) w.3 in
+        (not_cut a single_a (cut a) refl, scalar_fits (f a).shape (f a).outcome single_a (value_fits columns of_stores vs f gather.meaning gather.ordered readings a b.0 b.1 none) none);
+  }
+    where
+      not_cut : (a : ℕ) → is_single (f a).shape.space ≡ true → (b : Bool) → cut a ≡ b → cut a ≡ false
+      not_cut a s true e = absurd (let q : store_of (f a).shape.space ≡ Some store = ((cuts a).0 e).0 in let r : is_single (f a).shape.space ≡ false = not_single store (f a).shape.space q in cc)
+      not_cut a s false e = e
+
+  module _ (work : List ℕ) (all : (i : ℕ) → IsAmong work i ↔ (cut i ≡ true)) where
+    there_under : (r i : ℕ) (v : Vertex) → slice_get vs r ≡ Some v → DependsOn vs r i → (w : Vertex) × (slice_get vs i ≡ Some w)
+    there_under r i v e (itself j) = (v, e)
+    there_under r i v e (through j a l w g among d) = (let b = get_before vs j a w g (below_among j w.args a (gather.ordered j w g) among) in there_under a l b.0 b.1 d)
+
+    pub level_work : IsCutWork vs cut (IsAmong work)
+    level_work = record {
+      there = λ i p.
+          let is_cut : cut i ≡ true = (all i).0 p in
+          let r = (gather.under i).0 ((cuts i).0 is_cut).1.0 in
+          let u = gather.there r.0 r.1 in
+          (is_cut, there_under r.0 i u.0 u.1 r.2);
+      closed = λ i a v p e among is_cut. (all a).1 is_cut;
+    }
+
+    -- what stands below the level has no own fault
+    lower_none : (i : ℕ) (x : Fault) → IsAmong needed i → levels i ≤ k → IsBelow c (number_at (slice_get vs i)) → own_in vs f i ≡ Some x → ⊥
+    lower_none i x n l b own = beyond c x (number_at (slice_get vs i)) (candidate.least i x (n, l) own) (gather.levelled.numbered.by_number i x own) b
+
+    at_level : (i : ℕ) (x : Fault) → IsAmong work i → own_in vs f i ≡ Some x → IsWorkOf store vs f levels needed (k + 1) c i
+    at_level i x p own =
+        let w = (cuts i).0 ((all i).0 p) in
+        elim (split (levels i) k w.1.1) [ inl low ↦ absurd (lower_none i x w.1.0 low w.2 own) | inr high ↦ ((w.1.0, high, w.2), w.0) ]
+
+    in_work : (i : ℕ) → IsWorkOf store vs f levels needed (k + 1) c i → IsAmong work i
+    in_work i w = (all i).1 ((cuts i).1 (w.1, (w.0.0, (let h : levels i ≡ k + 1 = w.0.1 in omega (arith, h))), w.0.2))
+
+    pub level_found : (p : Option Fault) → IsLeast (own_in vs f) (IsAmong work) p ↔ IsLeast (own_in vs f) (IsWorkOf store vs f levels needed (k + 1) c) p
+    level_found p = (
+      λ h. record {
+        one = λ x e. (let w = h.one x e in (w.0, at_level w.0 x w.1 w.2, w.2));
+        least = λ i y w own. h.least i y (in_work i w) own;
+      },
+      λ h. record {
+        one = λ x e. (let w = h.one x e in (w.0, in_work w.0 w.1, w.2));
+        least = λ i y w own. h.least i y (at_level i y w own) own;
+      },
+    )
+
+-- ---- the test
+
+among_test : (i : ℕ) (needed : List ℕ) → (is_among i needed ≡ true) ↔ IsAmong needed i
+among_test i needed = (
+  λ h. (let w = any_of (λ j. j == i) needed h in subst (IsAmong needed) (number_is w.0 i w.2) w.1),
+  λ h. of_any (λ j. j == i) needed i h (same_number i),
+)
+
+store_test : (s : ℕ) (o : Option ℕ) → (is_store s o ≡ true) ↔ (o ≡ Some s)
+store_test s None = ((λ h. absurd (cc)), (λ h. absurd (cc)))
+store_test s (Some t) = ((λ h. ap Some (number_is t s h)), (λ h. ap (is_store s) h ∙ same_number s))
+
+at_most : (k n : ℕ) → (not (nat_lt k n) ≡ true) ↔ (n ≤ k)
+at_most k n = ((λ h. grind (arith, nat_tests)), (λ h. grind (arith, nat_tests)))
+
+below_test : (c : Option Fault) (n : ℕ) → (is_below c n ≡ true) ↔ IsBelow c n
+below_test None n = ((λ h. tt), (λ h. refl))
+below_test (Some x) n = ((λ h. grind (arith, nat_tests)), (λ h. grind (arith, nat_tests)))
+
+and_true : (a b : Bool) → a ≡ true → b ≡ true → (a && b) ≡ true
+and_true true b p q = q
+and_true false b p q = p
+
+pub cut_decided : (store : ℕ) (vs : List Vertex) (f : ℕ → Tall) (levels : ℕ → ℕ) (needed : List ℕ) (k : ℕ) (c : Option Fault) → IsCutAt store vs f levels needed k c (cut_at store vs f levels needed k c)
+cut_decided store vs f levels needed k c i = (
+  λ h.
+      let a = both (is_store store (store_of (f i).shape.space)) _ h in
+      let b = both (is_among i needed) _ a.1 in
+      let d = both (not (nat_lt k (levels i))) (is_below c (number_at (slice_get vs i))) b.1 in
+      ((store_test store (store_of (f i).shape.space)).0 a.0, ((among_test i needed).0 b.0, (at_most k (levels i)).0 d.0), (below_test c (number_at (slice_get vs i))).0 d.1),
+  λ w.
+      and_true (is_store store (store_of (f i).shape.space)) _ ((store_test store (store_of (f i).shape.space)).1 w.0)
+      (and_true (is_among i needed) _ ((among_test i needed).1 w.1.0)
+      (and_true (not (nat_lt k (levels i))) (is_below c (number_at (slice_get vs i))) ((at_most k (levels i)).1 w.1.1) ((below_test c (number_at (slice_get vs i))).1 w.2))),
+)

@@ -1,0 +1,11 @@
+use Rattle.tall_blocks.proofs.PassWorkLaws.{cut_decided, lower_levels, lower_ranks}
+use Rattle.tall_blocks.proofs.levels.the_values_of_a_pass_are_told.Goals as goal
+
+pub returns-clause-tested : goal.returns-clause-tested
+returns-clause-tested c = cut_decided
+
+pub returns-clause-levels : goal.returns-clause-levels
+returns-clause-levels c = lower_levels
+
+pub returns-clause-ranks : goal.returns-clause-ranks
+returns-clause-ranks c = lower_ranks

@@ -1,0 +1,26 @@
+use Rattle.tall_blocks.proofs.FoldLaws.{reduced_kept, group_kept, more_append, used_append, reduced_append, value_joined, joined_assoc, joined_start}
+use Rattle.tall_blocks.proofs.parts.reductions_go_on_from_what_is_kept.Goals as goal
+
+pub returns-clause-reductions : goal.returns-clause-reductions
+returns-clause-reductions c = reduced_kept
+
+pub returns-clause-methods : goal.returns-clause-methods
+returns-clause-methods c = group_kept
+
+pub returns-clause-goes_on : goal.returns-clause-goes_on
+returns-clause-goes_on c = more_append
+
+pub returns-clause-used : goal.returns-clause-used
+returns-clause-used c = used_append
+
+pub returns-clause-whole : goal.returns-clause-whole
+returns-clause-whole c = reduced_append
+
+pub returns-clause-joins : goal.returns-clause-joins
+returns-clause-joins c = value_joined
+
+pub returns-clause-in_any_order : goal.returns-clause-in_any_order
+returns-clause-in_any_order c = joined_assoc
+
+pub returns-clause-none : goal.returns-clause-none
+returns-clause-none c = joined_start
