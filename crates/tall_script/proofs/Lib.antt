@@ -1,6 +1,3 @@
 mod RunSteps
-mod StatesKept
 mod StoresKept
-mod LocalsKept
 mod Numbers
-mod FromBytes

@@ -1,0 +1,2 @@
+pub mod StatesKept
+mod LocalsKept
