@@ -1,7 +1,7 @@
 -- What a call of a function of values applies to which operands, from the number and the form of its arguments:
 -- docs/LANGUAGE.md, order of checks. What has another form is refused before any name or class is looked at. `V` is a value,
 -- of which a test tells whether it is a scalar in memory.
-use Rattle.std.specs.Prelude.{ℕ, zero, suc, pos, Bool, true, false, length, if◌then◌else◌, List, [], ◌∷◌, Option, None, Some, option_map, option_and_then}
+use Rattle.std.specs.Prelude.{ℕ, zero, suc, pos, Bool, true, false, List, [], ◌∷◌, Option, None, Some, option_map, option_and_then}
 use Rattle.tall_int.specs.declared.quotients.Rounding.TheVariants.{Fix}
 use Rattle.tall_value.specs.declared.functions.Method.{Method}
 use Rattle.tall_value.specs.declared.functions.Method.TheVariants.{Count}

@@ -1,12 +1,12 @@
 -- A store or an iterator as an argument of an index or of a function of values, by computation. The number of the arguments
 -- and `:` are looked at before it, and the form of the other arguments after it.
-use Rattle.std.specs.Prelude.{◌≡◌, refl, pos, [], ◌∷◌, Some, Ok, Err, codes, List}
+use Rattle.std.specs.Prelude.{◌≡◌, refl, pos, [], ◌∷◌, Some, Ok, Err, codes}
 use Rattle.tall_value.specs.declared.class.Class.TheVariants as class
 use Rattle.tall_value.specs.declared.class.IntKind.TheVariants.{Int8}
 use Rattle.tall_value.specs.declared.functions.Reduction.TheVariants.{Max}
 use Rattle.tall_value.specs.Cells.{whole, double, text}
 use Rattle.tall_local.specs.declared.functions.ValueFunction.TheVariants.{Sum, Reduction, Head, GroupSummary, IntMax, Idivide}
-use Rattle.tall_local.specs.Arguments.{Argument, given, colon}
+use Rattle.tall_local.specs.Arguments.{given, colon}
 use Rattle.tall_local.specs.Locals.{Held, value, store, iterator, held_index, held_function}
 use Rattle.tall_local.specs.Memory.{scalar, column, table}
 use Rattle.tall_local.specs.MemoryIndexing.{memory_index}

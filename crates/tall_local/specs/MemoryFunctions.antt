@@ -2,8 +2,6 @@
 -- scalar is looked at first, then names of variables, then classes, then the names of the columns made.
 use Rattle.std.specs.Prelude.{ℕ, pos, if◌then◌else◌, List, [], ◌∷◌, None, Some, Result, Ok, Err}
 use Rattle.tall_value.specs.declared.class.Class.{Class}
-use Rattle.tall_value.specs.declared.class.Class.TheVariants as class
-use Rattle.tall_value.specs.declared.class.Kind.{Kind}
 use Rattle.tall_value.specs.declared.faults.ClassFault.{ClassFault}
 use Rattle.tall_value.specs.declared.faults.FaultKind.{FaultKind}
 use Rattle.tall_value.specs.declared.functions.Method.{Method}

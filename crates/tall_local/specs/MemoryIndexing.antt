@@ -1,5 +1,5 @@
 -- Indexing of values in memory, and the variables of a table. docs/LANGUAGE.md, operators.
-use Rattle.std.specs.Prelude.{ℕ, ℤ, if◌then◌else◌, ◌==◌, length, Bool, true, false, List, [], ◌∷◌, Option, None, Some, Result, Ok, Err}
+use Rattle.std.specs.Prelude.{ℕ, if◌then◌else◌, ◌==◌, length, Bool, true, false, List, Option, None, Some, Result, Ok, Err}
 use Rattle.tall_value.specs.declared.class.Class.{Class}
 use Rattle.tall_value.specs.declared.class.Class.TheVariants as class
 use Rattle.tall_value.specs.Cells.{Seen, double}

@@ -55,14 +55,16 @@ is_within_store n = nat_lt n (2 ^ 40)
 abbrev pub has_room : List Pair → Bool
 has_room ps = is_within_store (length ps + 1)
 
--- why one more pair isn't accepted, if so: for its key, for its value, or for its number
+-- why a pair isn't accepted, if so: for its key, for its value, or for its number
+abbrev pub judged : (key value room : Bool) → Option Refusal
+judged false value room = Some bad_key
+judged true false room = Some bad_value
+judged true true false = Some too_many_rows
+judged true true true = None
+
+-- the same of one more pair
 abbrev pub misfit : List Pair → Pair → Option Refusal
-misfit ps p =
-    if is_key p.key && key_fits ps p.key
-    then if value_fits ps p.value
-    then if has_room ps then None else Some too_many_rows
-    else Some bad_value
-    else Some bad_key
+misfit ps p = judged (is_key p.key && key_fits ps p.key) (value_fits ps p.value) (has_room ps)
 
 -- with one more pair
 abbrev pub with_pair : List Pair → Pair → Result (List Pair) Refusal

@@ -1,5 +1,5 @@
 -- Datastores in a script: their making and their properties. docs/LANGUAGE.md, datastores.
-use Rattle.std.specs.Prelude.{ℕ, if◌then◌else◌, List, [], ◌∷◌, length, get_or, Option, None, Some, option_and_then, Result, Ok, Err}
+use Rattle.std.specs.Prelude.{ℕ, if◌then◌else◌, List, [], ◌∷◌, length, Option, None, Some, option_and_then, Result, Ok, Err}
 use Rattle.tall_outside.specs.Shelf.{Files}
 use Rattle.tall_semantics.specs.Faults.{At}
 use Rattle.tall_semantics.specs.Talls.{Tall}

@@ -14,3 +14,8 @@ pub mod AllowedOpenings
 pub mod RunLaws
 pub mod StatesFollow
 pub mod Numbering
+pub mod NumberLaws
+pub mod OpeningLaws
+pub mod AnswerLaws
+pub mod SizeLaws
+pub mod MapReduceLaws

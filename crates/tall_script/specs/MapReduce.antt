@@ -1,6 +1,6 @@
 -- mapreduce: the map function over the blocks of a datastore, in order, on one store; then the reduce function over the
 -- keys, in the order of their first adding, on another. docs/LANGUAGE.md, mapreduce.
-use Rattle.std.specs.Prelude.{ℕ, ◌+◌, length, List, [], ◌∷◌, ◌++◌, map, Option, None, Some, Result, Ok, Err, codes}
+use Rattle.std.specs.Prelude.{ℕ, ◌+◌, length, List, [], ◌∷◌, ◌++◌, map, None, Some, Result, Ok, Err, codes}
 use Rattle.tall_value.specs.Cells.{Seen}
 use Rattle.tall_column.specs.Columns.{SeenColumn}
 use Rattle.tall_outside.specs.Shelf.{Files, file_in}
