@@ -1,6 +1,8 @@
 mod RunSteps
-mod StatesKept
 mod StoresKept
-mod LocalsKept
 mod Numbers
-mod FromBytes
+mod NumbersInTurn
+mod OpeningsKept
+mod OneAnswer
+mod Sizes
+mod MapReduceApart

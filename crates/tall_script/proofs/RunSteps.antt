@@ -4,12 +4,12 @@ use Rattle.std.proofs.lemmas.List.{append-nil, append_assoc}
 use Rattle.std.specs.Prelude.{Option, None, Some}
 use Rattle.tall_semantics.specs.Talls.{Tall}
 use Rattle.tall_grammar.specs.Trees.{SeenStatement}
-use Rattle.tall_script.specs.Refusals.{Stop}
+use Rattle.tall_local.specs.Refusals.{Stop}
 use Rattle.tall_script.specs.RunLaws.{at_the_end, one_more, IsRunOf, all_ran, one_failed, BeginsWith, continued}
 use Rattle.tall_script.specs.Runs.{Run, behind, next, run_from}
 use Rattle.tall_script.specs.ScriptLanguage.{Setting}
 use Rattle.tall_script.specs.Statements.{Done, shows, fails, statement}
-use Rattle.tall_script.specs.Values.{State}
+use Rattle.tall_script.specs.States.{State}
 
 module _ (setting : Setting) where
   -- one statement in front

@@ -12,20 +12,22 @@ use Rattle.tall_store.specs.Options.{SeenOptions}
 use Rattle.tall_store.specs.Stores.{SeenStore}
 use Rattle.tall_grammar.specs.Trees.{Args, Body, assigned, gathered, property, bare, SeenStatement, SeenFunction, Tree, tree}
 use Rattle.tall_grammar.specs.Trees as trees
-use Rattle.tall_script.specs.Arguments.{Argument}
+use Rattle.tall_local.specs.Arguments.{Argument}
 use Rattle.tall_script.specs.Datastores.{datastore_call, options_in, first_opening, made_store, store_with}
-use Rattle.tall_script.specs.Expressions.{Valued, gives, stops, answered, arguments}
-use Rattle.tall_script.specs.Functions.{of_values, tabular_text_datastore, tall, gather, mapreduce, readall, hasnext, getnext, add}
+use Rattle.tall_local.specs.Expressions.{Valued, gives, stops, answered, arguments}
+use Rattle.tall_local.specs.declared.functions.ScriptFunction.TheVariants.{OfValues, TabularTextDatastore, Tall as TallOf, Gather, MapReduce, ReadAll, Elsewhere}
 use Rattle.tall_script.specs.Gathers.{answered_all, first_of, gather_all, gather_if, gather_known, gather_one, talls_in}
-use Rattle.tall_script.specs.Memory.{Memory}
-use Rattle.tall_script.specs.Refusals.{Refusal, Stop}
-use Rattle.tall_script.specs.StateLaws.{state_after, done_state, IsKept, CallsKeep, Follows}
-use Rattle.tall_script.specs.ScriptLanguage.{Setting, mapreduce_with, reduced_arguments, reduce_store, script_call, script_language, script_value, table_or_stop}
+use Rattle.tall_local.specs.Memory.{Memory}
+use Rattle.tall_local.specs.Refusals.{Refusal, Stop}
+use Rattle.tall_local.specs.StateLaws.{state_after, IsKept, CallsKeep}
+use Rattle.tall_script.specs.StatesFollow.{done_state, Follows}
+use Rattle.tall_script.specs.ScriptLanguage.{Setting, place, mapreduce_with, reduced_arguments, reduce_store, script_call, script_language, script_value, table_or_stop}
 use Rattle.tall_script.specs.Runs.{Run, next, run_from}
 use Rattle.tall_script.specs.Statements.{Done, shows, fails, then_do, set_name, set_names, gather_into, put_store, alone, body, statement}
 use Rattle.tall_script.specs.ScriptValues.{TallValue}
-use Rattle.tall_script.specs.Values.{Openings, State, Store, in_memory, with_openings, with_store}
-use Rattle.tall_script.proofs.StatesKept.{value_kept, arguments_kept}
+use Rattle.tall_local.specs.Values.{in_memory}
+use Rattle.tall_script.specs.States.{Openings, State, Store, with_openings, with_store}
+use Rattle.tall_local.proofs.StatesKept.{value_kept, arguments_kept}
 
 same_state : (s : State Tall) → Follows s s
 same_state s = record { more_stores = []; stores = sym (append-nil s.stores); more_openings = []; opened = sym (append-nil s.opened) }
@@ -47,9 +49,9 @@ more_openings more s = record { more_stores = []; stores = sym (append-nil s.sto
 one_store : (d : Store) (s : State Tall) → Follows s (with_store d s)
 one_store d s = record { more_stores = d ∷ []; stores = refl; more_openings = []; opened = sym (append-nil s.opened) }
 
-answer : (at : At) (s : State Tall) (r : Result TallValue Refusal) → Follows s (state_after (answered at s r))
-answer at s (Ok v) = same_state s
-answer at s (Err e) = same_state s
+answer : (line : ℕ) (s : State Tall) (r : Result TallValue Refusal) → Follows s (state_after (answered line s r))
+answer line s (Ok v) = same_state s
+answer line s (Err e) = same_state s
 
 -- ---- datastores
 
@@ -115,15 +117,13 @@ mapreduces setting at (Err e) s = same_state s
 
 calls_follow : (setting : Setting) → CallsKeep (script_language setting) Follows
 unfolding script_call
-calls_follow setting at (of_values f) args s = answer at s _
-calls_follow setting at tabular_text_datastore args s = datastores setting.files at args s
-calls_follow setting at tall args s = answer at s _
-calls_follow setting at gather args s = one_gather at _ s
-calls_follow setting at mapreduce args s = mapreduces setting at (reduced_arguments args) s
-calls_follow setting at readall args s = answer at s _
-calls_follow setting at hasnext args s = same_state s
-calls_follow setting at getnext args s = same_state s
-calls_follow setting at add args s = same_state s
+calls_follow setting n l (OfValues f) args s = answer l s _
+calls_follow setting n l TabularTextDatastore args s = datastores setting.files (place n l) args s
+calls_follow setting n l TallOf args s = answer l s _
+calls_follow setting n l Gather args s = one_gather (place n l) _ s
+calls_follow setting n l MapReduce args s = mapreduces setting (place n l) (reduced_arguments args) s
+calls_follow setting n l ReadAll args s = answer l s _
+calls_follow setting n l Elsewhere args s = same_state s
 
 expression_follows : (setting : Setting) (e : Tree) (s : State Tall) → Follows s (state_after (script_value setting e s))
 expression_follows setting e s = value_kept (script_language setting) Follows follows_kept (calls_follow setting) e s

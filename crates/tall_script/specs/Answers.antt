@@ -1,10 +1,9 @@
 -- The answer of a script over files: docs/LANGUAGE.md, commands and fault lines.
-use Rattle.std.specs.Prelude.{ℕ, List, [], ◌++◌, ◌≡◌, Option, None, Some, codes}
-use Rattle.std.specs.Fmt.{decimal}
+use Rattle.std.specs.Prelude.{ℕ, List, [], ◌≡◌, Option, None, Some}
 use Rattle.tall_outside.specs.Shelf.{Files, file_in}
 use Rattle.tall_grammar.specs.Refusals as parse
-use Rattle.tall_script.specs.Refusals.{Stop}
-use Rattle.tall_script.specs.FaultLines.{fault_line, on_line, stop_line}
+use Rattle.tall_local.specs.Refusals.{Stop}
+use Rattle.tall_local.specs.FaultLines.{fault_line, stop_line, too_long_text, bad_token_text, too_deep_text, syntax_text, no_script_text}
 use Rattle.tall_script.specs.Runs.{run}
 
 -- all statements ran, or the script or its data have a fault
@@ -28,12 +27,12 @@ ended text (Some stop) = record { status = fault; text = text; line = stop_line 
 -- of what the bytes of a script are
 abbrev pub answer_of : Files → parse.Answer → Answer
 answer_of files (parse.read p) = ended (run files p).text (run files p).ending
-answer_of files parse.too_long = refused (codes "script above 1048576 bytes")
-answer_of files (parse.bad_token line place) = refused (on_line line (codes "bad token at " ++ decimal place))
-answer_of files (parse.too_deep_at line) = refused (on_line line (codes "nested above 64"))
-answer_of files (parse.syntax_at line) = refused (on_line line (codes "syntax"))
+answer_of files parse.too_long = refused too_long_text
+answer_of files (parse.bad_token line place) = refused (bad_token_text line place)
+answer_of files (parse.too_deep_at line) = refused (too_deep_text line)
+answer_of files (parse.syntax_at line) = refused (syntax_text line)
 
 -- of the script of a name, which may be absent
 pub data Answers (files : Files) (name : List ℕ) : Answer → Type 0 where
-  no_script : file_in files name ≡ None → Answers files name (refused (codes "no file " ++ name))
+  no_script : file_in files name ≡ None → Answers files name (refused (no_script_text name))
   of_script : {bytes : List ℕ} {a : parse.Answer} → file_in files name ≡ Some bytes → parse.Parses bytes a → Answers files name (answer_of files a)

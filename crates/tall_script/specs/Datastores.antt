@@ -1,32 +1,30 @@
 -- Datastores in a script: their making and their properties. docs/LANGUAGE.md, datastores.
-use Rattle.std.specs.Prelude.{ℕ, if◌then◌else◌, List, [], ◌∷◌, length, get_or, Option, None, Some, option_and_then, Result, Ok, Err}
+use Rattle.std.specs.Prelude.{ℕ, if◌then◌else◌, List, [], ◌∷◌, length, Option, None, Some, option_and_then, Result, Ok, Err}
 use Rattle.tall_outside.specs.Shelf.{Files}
 use Rattle.tall_semantics.specs.Faults.{At}
 use Rattle.tall_semantics.specs.Talls.{Tall}
 use Rattle.tall_store.specs.declared.faults.StoreFault.{StoreFault}
 use Rattle.tall_store.specs.declared.faults.StoreFault.TheVariants as store_fault
-use Rattle.tall_store.specs.Opening.{opening}
+use Rattle.tall_store.specs.Opening.{first_name, opening}
 use Rattle.tall_store.specs.Options.{SeenOptions, is_accepted}
 use Rattle.tall_store.specs.Properties.{sized, selecting, formatted}
 use Rattle.tall_store.specs.Stores.{SeenStore}
-use Rattle.tall_script.specs.Arguments.{Argument, value_given}
-use Rattle.tall_script.specs.Lists.{all_of}
-use Rattle.tall_script.specs.Refusals.{Refusal, bad_argument, bad_class, failed, Stop, stop_at}
-use Rattle.tall_script.specs.Refusals as refusal
-use Rattle.tall_script.specs.Memory.{Memory}
-use Rattle.tall_script.specs.Expressions.{Valued, gives, stops}
+use Rattle.tall_local.specs.Arguments.{Argument, value_given}
+use Rattle.tall_local.specs.Lists.{all_of}
+use Rattle.tall_local.specs.Refusals.{Refusal, bad_argument, bad_class, failed, Stop, stop_at}
+use Rattle.tall_local.specs.Refusals as refusal
+use Rattle.tall_local.specs.Memory.{Memory}
+use Rattle.tall_local.specs.Expressions.{Valued, gives, stops}
 use Rattle.tall_script.specs.ScriptValues.{TallValue}
 use Rattle.tall_script.specs.StoreArguments.{options_given, size_given, texts_given, formats_given, Property, read_size, selected_variable_names, textscan_formats}
-use Rattle.tall_script.specs.Values.{datastore, in_memory, State, Openings, with_openings, with_store}
+use Rattle.tall_local.specs.Values.{datastore, in_memory}
+use Rattle.tall_script.specs.States.{State, Openings, with_openings, with_store}
 
 -- ---- making
 
 abbrev pub value_in_memory : TallValue → Option Memory
 value_in_memory (in_memory v) = Some v
 value_in_memory v = None
-
-abbrev pub first_name : List (List ℕ) → List ℕ
-first_name names = get_or names 0 []
 
 -- the definition of an opening has these three faults alone
 abbrev pub opening_refusal : List (List ℕ) → StoreFault → Refusal

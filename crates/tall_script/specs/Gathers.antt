@@ -9,15 +9,16 @@ use Rattle.tall_semantics.specs.Outcomes.{Outcome, fault_of, cells_in}
 use Rattle.tall_semantics.specs.Outcomes as outcome
 use Rattle.tall_semantics.specs.Shapes.{Shape}
 use Rattle.tall_semantics.specs.Talls.{Tall, shapes, outcomes}
-use Rattle.tall_script.specs.Arguments.{Argument, value_given}
-use Rattle.tall_script.specs.Lists.{all_of}
-use Rattle.tall_script.specs.Names.{each_named}
-use Rattle.tall_script.specs.Refusals.{bad_class, bad_argument, Stop, stop_at}
-use Rattle.tall_script.specs.Memory.{Memory, scalar, column, table, texts}
-use Rattle.tall_script.specs.Expressions.{Valued, gives, stops}
+use Rattle.tall_local.specs.Arguments.{Argument, value_given}
+use Rattle.tall_local.specs.Lists.{all_of}
+use Rattle.tall_local.specs.Names.{each_named}
+use Rattle.tall_local.specs.Refusals.{bad_class, bad_argument, Stop, stop_at}
+use Rattle.tall_local.specs.Memory.{Memory, scalar, column, table, texts}
+use Rattle.tall_local.specs.Expressions.{Valued, gives, stops}
 use Rattle.tall_script.specs.ScriptValues.{TallValue}
 use Rattle.tall_script.specs.ReadingFaults.{stop_of_fault}
-use Rattle.tall_script.specs.Values.{datastore, tall_table, deferred, in_memory, Store, State, Openings, with_openings}
+use Rattle.tall_local.specs.Values.{datastore, tall_table, deferred, in_memory}
+use Rattle.tall_script.specs.States.{Store, State, Openings, with_openings}
 
 -- a datastore and a list are refused
 abbrev pub is_gathered : TallValue → Bool

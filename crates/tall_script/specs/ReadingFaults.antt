@@ -6,9 +6,9 @@ use Rattle.tall_store.specs.declared.faults.ReadingFault.{ReadingFault}
 use Rattle.tall_store.specs.declared.faults.ReadingKind.TheVariants as kind
 use Rattle.tall_store.specs.declared.faults.ReadingKind as store_kind
 use Rattle.tall_store.specs.Stores.{SeenStore, name_at}
-use Rattle.tall_script.specs.Refusals.{Refusal, bad_argument, bad_class, failed, Stop, stop_at}
-use Rattle.tall_script.specs.Refusals as refusal
-use Rattle.tall_script.specs.Values.{Store}
+use Rattle.tall_local.specs.Refusals.{Refusal, bad_argument, bad_class, failed, Stop, stop_at}
+use Rattle.tall_local.specs.Refusals as refusal
+use Rattle.tall_script.specs.States.{Store}
 
 abbrev pub kind_of_reading : store_kind.ReadingKind → ReadingKind
 kind_of_reading kind.NoFile = no_file

@@ -4,11 +4,11 @@ use Rattle.std.specs.Prelude.{◌≡◌, ℕ, List, [], ◌∷◌, ◌++◌, Non
 use Rattle.std.specs.List.{concat}
 use Rattle.tall_semantics.specs.Talls.{Tall}
 use Rattle.tall_grammar.specs.Trees.{SeenStatement}
-use Rattle.tall_script.specs.Refusals.{Stop}
+use Rattle.tall_local.specs.Refusals.{Stop}
 use Rattle.tall_script.specs.Runs.{Run, behind, run_from}
 use Rattle.tall_script.specs.ScriptLanguage.{Setting}
 use Rattle.tall_script.specs.Statements.{shows, fails, statement}
-use Rattle.tall_script.specs.Values.{State}
+use Rattle.tall_script.specs.States.{State}
 
 -- from one state to another statements run to their end, with the texts that they show
 pub data RunsTo (setting : Setting) : State Tall → List SeenStatement → List (List ℕ) → State Tall → Type 0 where

@@ -3,10 +3,10 @@ use Rattle.std.specs.Prelude.{ℕ, List, [], ◌∷◌, ◌++◌, Option, None, 
 use Rattle.tall_semantics.specs.Talls.{Tall}
 use Rattle.tall_outside.specs.Shelf.{Files}
 use Rattle.tall_grammar.specs.Trees.{SeenStatement, SeenScript}
-use Rattle.tall_script.specs.Refusals.{Stop}
+use Rattle.tall_local.specs.Refusals.{Stop}
 use Rattle.tall_script.specs.ScriptLanguage.{Setting}
 use Rattle.tall_script.specs.Statements.{Done, shows, fails, statement}
-use Rattle.tall_script.specs.Values.{State, empty_state, openings_of}
+use Rattle.tall_script.specs.States.{State, empty_state, times_allowed}
 
 -- the text that is shown, what ended the run before its end, and the state then
 pub record Run : Type 0 where
@@ -34,4 +34,4 @@ run files p = run_from (setting_of files p) p.statements empty_state
 
 -- how often a run may open a file that is not the script
 abbrev pub openings : Files → SeenScript → List ℕ → ℕ
-openings files p file = openings_of file (run files p).state.opened
+openings files p file = times_allowed file (run files p).state.opened

@@ -7,18 +7,21 @@ use Rattle.tall_semantics.specs.Faults.{At}
 use Rattle.tall_semantics.specs.Talls.{Tall}
 use Rattle.tall_outside.specs.Shelf.{Files}
 use Rattle.tall_grammar.specs.Trees.{Tree, SeenFunction}
-use Rattle.tall_script.specs.Arguments.{Argument, function, given, value_given}
-use Rattle.tall_script.specs.Lists.{all_of}
-use Rattle.tall_script.specs.Names.{named}
-use Rattle.tall_script.specs.Refusals.{Refusal, undefined, bad_class, bad_argument, Stop, stop_at}
-use Rattle.tall_script.specs.Memory.{Memory, scalar, table}
-use Rattle.tall_script.specs.Functions.{Function, of_values, tabular_text_datastore, tall, gather, mapreduce, readall, hasnext, getnext, add}
-use Rattle.tall_script.specs.Tasks.{Task, task_of}
-use Rattle.tall_script.specs.Expressions.{Language, Valued, gives, stops, answered}
-use Rattle.tall_script.specs.Expressions as expressions
-use Rattle.tall_script.specs.Constants.{constant_named}
-use Rattle.tall_script.specs.ScriptValues.{TallValue, scalar_given, task_value, prefix_value, infix_value, member_value, index_value}
-use Rattle.tall_script.specs.Values.{datastore, in_memory, State, Store, with_openings}
+use Rattle.tall_local.specs.Arguments.{Argument, function, given, value_given}
+use Rattle.tall_local.specs.Lists.{all_of}
+use Rattle.tall_local.specs.Names.{named}
+use Rattle.tall_local.specs.Refusals.{Refusal, undefined, bad_class, bad_argument, Stop, stop_at}
+use Rattle.tall_local.specs.Memory.{Memory, scalar, table}
+use Rattle.tall_local.specs.declared.functions.ScriptFunction.{ScriptFunction}
+use Rattle.tall_local.specs.declared.functions.ScriptFunction.TheVariants.{OfValues, TabularTextDatastore, Tall as TallOf, Gather, MapReduce, ReadAll, Elsewhere}
+use Rattle.tall_local.specs.Functions.{script_function_named}
+use Rattle.tall_local.specs.Applications.{Application, application_of}
+use Rattle.tall_local.specs.Expressions.{Language, Valued, gives, stops, answered}
+use Rattle.tall_local.specs.Expressions as expressions
+use Rattle.tall_local.specs.Constants.{constant_named}
+use Rattle.tall_script.specs.ScriptValues.{TallValue, scalar_given, application_value, prefix_value, infix_value, member_value, index_value}
+use Rattle.tall_local.specs.Values.{datastore, in_memory}
+use Rattle.tall_script.specs.States.{State, Store, with_openings}
 use Rattle.tall_script.specs.Datastores.{datastore_call}
 use Rattle.tall_script.specs.TallTables.{tall_call}
 use Rattle.tall_script.specs.Gathers.{gather_call}
@@ -44,9 +47,9 @@ handle_refusal fs name = if is_some (routine_named fs name) then bad_argument el
 
 -- ---- calls
 
-abbrev pub task_answer : At → Option (Task TallValue) → Result TallValue Refusal
-task_answer at (Some t) = task_value at t
-task_answer at None = Err bad_argument
+abbrev pub application_answer : At → Option (Application TallValue) → Result TallValue Refusal
+application_answer at (Some a) = application_value at a
+application_answer at None = Err bad_argument
 
 -- readall(t): a table in memory
 abbrev pub readall_answer : Option (List TallValue) → Result TallValue Refusal
@@ -76,34 +79,37 @@ mapreduce_with setting at (Ok a) s =
     reduce_store setting.files at (slice_get s.stores a.0) (routine_named setting.functions a.1) (routine_named setting.functions a.2) s
 mapreduce_with setting at (Err refusal) s = stops (stop_at at.line refusal) s
 
-unfoldable pub script_call : Setting → At → Function → List (Argument TallValue) → State Tall → Valued TallValue (State Tall)
-script_call setting at (of_values f) args s = answered at s (task_answer at (task_of scalar_given f args))
-script_call setting at tabular_text_datastore args s = datastore_call setting.files at args s
-script_call setting at tall args s = answered at s (tall_call setting.files args s)
-script_call setting at gather args s = gather_call at args s
-script_call setting at mapreduce args s = mapreduce_with setting at (reduced_arguments args) s
-script_call setting at readall args s = answered at s (readall_answer (all_of value_given args))
-script_call setting at hasnext args s = answered at s (Err bad_argument)
-script_call setting at getnext args s = answered at s (Err bad_argument)
-script_call setting at add args s = answered at s (Err bad_argument)
+unfoldable pub script_call : Setting → At → ScriptFunction → List (Argument TallValue) → State Tall → Valued TallValue (State Tall)
+script_call setting at (OfValues f) args s = answered at.line s (application_answer at (application_of scalar_given f args))
+script_call setting at TabularTextDatastore args s = datastore_call setting.files at args s
+script_call setting at TallOf args s = answered at.line s (tall_call setting.files args s)
+script_call setting at Gather args s = gather_call at args s
+script_call setting at MapReduce args s = mapreduce_with setting at (reduced_arguments args) s
+script_call setting at ReadAll args s = answered at.line s (readall_answer (all_of value_given args))
+script_call setting at Elsewhere args s = answered at.line s (Err bad_argument)
 
-abbrev pub is_mapreduce : Function → Bool
-is_mapreduce mapreduce = true
+abbrev pub is_mapreduce : ScriptFunction → Bool
+is_mapreduce MapReduce = true
 is_mapreduce f = false
 
-abbrev pub script_language : Setting → Language TallValue (State Tall)
+-- an expression of a script, by its number and its line
+abbrev pub place : (number line : ℕ) → At
+place n l = record { number = n; line = l }
+
+abbrev pub script_language : Setting → Language ScriptFunction TallValue (State Tall)
 script_language setting = record {
   literal = in_memory;
   has_value = λ s name. is_some (named s.names name);
   name = λ s name. read_name name (named s.names name);
   handle = handle_refusal setting.functions;
+  function_named = script_function_named;
   takes_handles = is_mapreduce;
   function_is_there = λ name. is_some (routine_named setting.functions name);
-  prefix_value = prefix_value;
-  infix_value = infix_value;
+  prefix_value = λ n l op v. prefix_value (place n l) op v;
+  infix_value = λ n l op v w. infix_value (place n l) op v w;
   member = member_value;
-  index = index_value;
-  call = script_call setting;
+  index = λ n l v args. index_value (place n l) v args;
+  call = λ n l f args s. script_call setting (place n l) f args s;
 }
 
 -- the value of an expression of a script

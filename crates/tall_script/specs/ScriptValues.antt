@@ -1,7 +1,7 @@
 -- Operators, indexes and functions of values over the values of a script. Where all operands are in memory they are
 -- computed at once; an operation over a tall value is deferred, and refused as `tall` refuses it. A scalar in memory
 -- meets each row of a tall value; a column in memory meets none. docs/LANGUAGE.md, operators and functions.
-use Rattle.std.specs.Prelude.{ℕ, Bool, false, if◌then◌else◌, List, [], ◌∷◌, Option, None, Result, Ok, Err}
+use Rattle.std.specs.Prelude.{ℕ, Bool, false, if◌then◌else◌, List, [], ◌∷◌, Option, None, Some, Result, Ok, Err}
 use Rattle.tall_value.specs.declared.class.Class.{Class}
 use Rattle.tall_value.specs.declared.faults.ClassFault.{ClassFault}
 use Rattle.tall_value.specs.declared.functions.Method.{Method}
@@ -12,6 +12,7 @@ use Rattle.tall_value.specs.declared.operators.Binary.{Binary}
 use Rattle.tall_value.specs.declared.operators.Unary.{Unary}
 use Rattle.tall_value.specs.Cells.{Seen}
 use Rattle.tall_value.specs.ClassTables.{binary_class}
+use Rattle.tall_value.specs.SummaryNames.{summary_names}
 use Rattle.tall_grammar.specs.declared.expressions.Prefix.{Prefix}
 use Rattle.tall_grammar.specs.declared.expressions.Infix.{Infix}
 use Rattle.tall_semantics.specs.Faults.{At}
@@ -20,18 +21,16 @@ use Rattle.tall_semantics.specs.Operations as op
 use Rattle.tall_semantics.specs.Spaces.{is_single}
 use Rattle.tall_semantics.specs.Shapes as shapes
 use Rattle.tall_semantics.specs.Talls.{Tall, tall}
-use Rattle.tall_script.specs.Arguments.{Argument, colon, given}
-use Rattle.tall_script.specs.Lists.{each_of}
-use Rattle.tall_script.specs.Names.{named}
-use Rattle.tall_script.specs.Refusals.{Refusal, undefined, mixed_class, bad_class, incompatible, bad_argument, refused_class, and_then, or_refuse}
-use Rattle.tall_script.specs.Memory.{Memory, scalar, column, table, is_scalar, scalar_in}
-use Rattle.tall_script.specs.MemoryOperators.{memory_unary, memory_binary, unary_of, binary_of, scalars_fit}
-use Rattle.tall_script.specs.MemoryIndexing.{is_logical, memory_index, memory_member}
-use Rattle.tall_script.specs.MemoryFunctions.{memory_task, paired, if_distinct}
-use Rattle.tall_script.specs.Functions.{group_names}
-use Rattle.tall_script.specs.Tasks.{Task}
-use Rattle.tall_script.specs.Tasks as task
-use Rattle.tall_script.specs.Values.{Value, tall_table, deferred, in_memory, memory_answer}
+use Rattle.tall_local.specs.Arguments.{Argument, Index, rows_at, all_variables_at, index_of}
+use Rattle.tall_local.specs.Lists.{each_of}
+use Rattle.tall_local.specs.Names.{named}
+use Rattle.tall_local.specs.Refusals.{Refusal, undefined, mixed_class, bad_class, incompatible, bad_argument, refused_class, and_then, or_refuse}
+use Rattle.tall_local.specs.Memory.{Memory, scalar, column, table, is_scalar, scalar_in}
+use Rattle.tall_local.specs.MemoryOperators.{memory_unary, memory_binary, unary_of, binary_of, scalars_fit}
+use Rattle.tall_local.specs.MemoryIndexing.{is_logical, memory_index, memory_member}
+use Rattle.tall_local.specs.MemoryFunctions.{memory_operation, paired, if_distinct}
+use Rattle.tall_local.specs.Applications.{Operation, reduce, height, scan, head, tail, distinct, groups, unary, Application, applied}
+use Rattle.tall_local.specs.Values.{Value, tall_table, deferred, in_memory, memory_answer}
 
 -- a value of a script
 abbrev pub TallValue : Type 0
@@ -134,14 +133,17 @@ tall_table_index at t (deferred mask) = table_answer (over_columns (λ x. comput
 tall_table_index at t (in_memory i) = memory_index_of_tall i
 tall_table_index at t i = Err bad_argument
 
+abbrev pub index_value_of : At → TallValue → Option (Index TallValue) → Result TallValue Refusal
+index_value_of at (in_memory v) (Some (rows_at (in_memory i))) = memory_answer (memory_index v (Some (rows_at i)))
+index_value_of at (in_memory v) (Some (all_variables_at (in_memory i))) = memory_answer (memory_index v (Some (all_variables_at i)))
+index_value_of at (in_memory (column x)) (Some (rows_at (deferred i))) = tall_index_of_memory i
+index_value_of at (in_memory (table t)) (Some (all_variables_at (deferred i))) = tall_index_of_memory i
+index_value_of at (deferred x) (Some (rows_at i)) = tall_column_index at x i
+index_value_of at (tall_table t) (Some (all_variables_at i)) = tall_table_index at t i
+index_value_of at v index = Err bad_argument
+
 unfoldable pub index_value : At → TallValue → List (Argument TallValue) → Result TallValue Refusal
-index_value at (in_memory v) (given (in_memory i) ∷ []) = memory_answer (memory_index v (given i ∷ []))
-index_value at (in_memory v) (given (in_memory i) ∷ colon ∷ []) = memory_answer (memory_index v (given i ∷ colon ∷ []))
-index_value at (in_memory (column x)) (given (deferred i) ∷ []) = tall_index_of_memory i
-index_value at (in_memory (table t)) (given (deferred i) ∷ colon ∷ []) = tall_index_of_memory i
-index_value at (deferred x) (given i ∷ []) = tall_column_index at x i
-index_value at (tall_table t) (given i ∷ colon ∷ []) = tall_table_index at t i
-index_value at v args = Err bad_argument
+index_value at v args = index_value_of at v (index_of args)
 
 -- ---- functions of values
 
@@ -164,9 +166,14 @@ abbrev pub rows_value : At → Op → TallValue → Result TallValue Refusal
 rows_value at o (tall_table t) = table_answer (over_columns (λ x. computed at o (x ∷ [])) t)
 rows_value at o v = column_value at o v
 
+-- the columns that a method makes
+abbrev pub parts_of : Method → List Part
+parts_of Count = keys ∷ counts ∷ []
+parts_of m = keys ∷ counts ∷ values ∷ []
+
 -- the columns of `groupsummary` under their names
-abbrev pub summary_columns : At → Method → List Part → List Tall → Result (List Tall) Refusal
-summary_columns at m parts xs = each_of (λ part. computed at (op.group m part) xs) parts
+abbrev pub group_columns : At → Method → List Tall → Result (List Tall) Refusal
+group_columns at m xs = each_of (λ part. computed at (op.group m part) xs) (parts_of m)
 
 abbrev pub summary_table : List (List ℕ) → Result (List Tall) Refusal → Result TallValue Refusal
 summary_table names (Ok columns) = if_distinct names (Ok (tall_table (paired names columns)))
@@ -174,30 +181,31 @@ summary_table names (Err e) = Err e
 
 abbrev pub groups_value : At → TallValue → List ℕ → Method → List ℕ → Result TallValue Refusal
 groups_value at (tall_table t) key Count value =
-    and_then (tall_variable t key) (λ g. summary_table (group_names key Count value) (summary_columns at Count (keys ∷ counts ∷ []) (g ∷ [])))
+    and_then (tall_variable t key) (λ g. summary_table (summary_names Count key value) (group_columns at Count (g ∷ [])))
 groups_value at (tall_table t) key m value =
     and_then (tall_variable t key) (λ g. and_then (tall_variable t value)
-    (λ v. summary_table (group_names key m value) (summary_columns at m (keys ∷ counts ∷ values ∷ []) (g ∷ v ∷ []))))
+    (λ v. summary_table (summary_names m key value) (group_columns at m (g ∷ v ∷ []))))
 groups_value at v key m value = Err bad_class
 
 -- values in memory are computed at once
-abbrev pub or_memory : (Memory → Task Memory) → TallValue → Result TallValue Refusal → Result TallValue Refusal
-or_memory of_memory (in_memory v) answer = memory_answer (memory_task (of_memory v))
-or_memory of_memory v answer = answer
+abbrev pub operation_value : At → Operation → TallValue → Result TallValue Refusal
+operation_value at o (in_memory v) = memory_answer (memory_operation o v)
+operation_value at (reduce r) v = reduce_value at r v
+operation_value at height v = height_value at v
+operation_value at (scan s) v = column_value at (op.scan s) v
+operation_value at (head k) v = rows_value at (op.head k) v
+operation_value at (tail k) v = rows_value at (op.tail k) v
+operation_value at distinct v = column_value at op.distinct v
+operation_value at (groups key m value) v = groups_value at v key m value
+operation_value at (unary o) v = unary_value at o v
 
-unfoldable pub task_value : At → Task TallValue → Result TallValue Refusal
-task_value at (task.reduce r v) = or_memory (task.reduce r) v (reduce_value at r v)
-task_value at (task.height v) = or_memory task.height v (height_value at v)
-task_value at (task.scan s v) = or_memory (task.scan s) v (column_value at (op.scan s) v)
-task_value at (task.head k v) = or_memory (task.head k) v (rows_value at (op.head k) v)
-task_value at (task.tail k v) = or_memory (task.tail k) v (rows_value at (op.tail k) v)
-task_value at (task.distinct v) = or_memory task.distinct v (column_value at op.distinct v)
-task_value at (task.groups t key m value) = or_memory (λ v. task.groups v key m value) t (groups_value at t key m value)
-task_value at (task.constant c) = Ok (in_memory (scalar c))
-task_value at (task.binary o v w) = binary_value at o v w
-task_value at (task.unary o v) = unary_value at o v
+unfoldable pub application_value : At → Application TallValue → Result TallValue Refusal
+application_value at a = applied (λ c. Ok (in_memory (scalar c))) (operation_value at) (binary_value at) a
 
 -- a scalar in memory, for options and numbers of rows
 abbrev pub scalar_given : TallValue → Option Seen
 scalar_given (in_memory v) = scalar_in v
 scalar_given v = None
+
+abbrev pub class_of_tall : Tall → Class
+class_of_tall x = x.shape.class

@@ -4,19 +4,20 @@ use Rattle.std.specs.Prelude.{ℕ, Bool, false, if◌then◌else◌, ◌==◌, l
 use Rattle.tall_grammar.specs.Trees.{Tree, tree, Args, Body, assigned, gathered, property, bare, SeenStatement}
 use Rattle.tall_grammar.specs.Trees as trees
 use Rattle.tall_semantics.specs.Talls.{Tall}
-use Rattle.tall_script.specs.Arguments.{value_given}
-use Rattle.tall_script.specs.Lists.{all_of}
-use Rattle.tall_script.specs.Names.{named, put_name}
-use Rattle.tall_script.specs.Refusals.{Refusal, undefined, bad_argument, Stop, stop_at, and_then, or_refuse}
-use Rattle.tall_script.specs.Memory.{Memory}
-use Rattle.tall_script.specs.Expressions.{Valued, gives, stops, arguments}
-use Rattle.tall_script.specs.ScriptLanguage.{Setting, script_language, script_value}
-use Rattle.tall_script.specs.ScriptValues.{TallValue}
+use Rattle.tall_local.specs.Arguments.{value_given}
+use Rattle.tall_local.specs.Lists.{all_of}
+use Rattle.tall_local.specs.Names.{named, put_name}
+use Rattle.tall_local.specs.Refusals.{Refusal, bad_argument, Stop, stop_at, and_then, or_refuse}
+use Rattle.tall_local.specs.Memory.{Memory}
+use Rattle.tall_local.specs.Expressions.{Valued, gives, stops, arguments}
+use Rattle.tall_script.specs.ScriptLanguage.{Setting, read_name, script_language, script_value}
+use Rattle.tall_script.specs.ScriptValues.{TallValue, class_of_tall}
 use Rattle.tall_script.specs.Gathers.{gather_all}
 use Rattle.tall_script.specs.Datastores.{changed}
 use Rattle.tall_script.specs.StoreArguments.{properties}
-use Rattle.tall_script.specs.Printing.{value_text, class_of_tall}
-use Rattle.tall_script.specs.Values.{datastore, in_memory, State, Store, with_store}
+use Rattle.tall_local.specs.Printing.{value_text}
+use Rattle.tall_local.specs.Values.{datastore, in_memory}
+use Rattle.tall_script.specs.States.{State, Store, with_store}
 
 -- a statement shows a text and leaves a state, or stops; a state tells what was done before
 pub data Done : Type 0 where
@@ -55,10 +56,11 @@ gather_into line shown names (Some vs) s =
 
 -- ---- properties
 
-abbrev pub store_of : List Store → Option TallValue → List ℕ → Result Store Refusal
-store_of stores (Some (datastore place)) name = or_refuse bad_argument (slice_get stores place)
-store_of stores (Some v) name = Err bad_argument
-store_of stores None name = Err (undefined name)
+-- the datastore of a name; a name that has a value while no variable hides it stands for no datastore
+abbrev pub datastore_named : List Store → List ℕ → Result TallValue Refusal → Result Store Refusal
+datastore_named stores name (Ok (datastore place)) = or_refuse bad_argument (slice_get stores place)
+datastore_named stores name (Ok v) = Err bad_argument
+datastore_named stores name (Err e) = Err e
 
 -- the datastore with the property changed keeps the number and the line of its call
 abbrev pub changed_store : List ℕ → TallValue → Store → Result Store Refusal
@@ -85,7 +87,7 @@ body setting line shown (gathered names args) s =
     then_do (arguments (script_language setting) args false s) (λ given t. gather_into line shown names (all_of value_given given) t)
 body setting line shown (property name p e) s =
     then_do (script_value setting e s)
-    (λ v t. put_store line shown name (and_then (store_of t.stores (named t.names name) name) (changed_store p v)) t)
+    (λ v t. put_store line shown name (and_then (datastore_named t.stores name (read_name name (named t.names name))) (changed_store p v)) t)
 body setting line shown (bare e) s = then_do (script_value setting e s) (alone shown e)
 
 abbrev pub statement : Setting → SeenStatement → State Tall → Done

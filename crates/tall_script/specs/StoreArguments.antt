@@ -9,10 +9,10 @@ use Rattle.tall_grammar.specs.Grammar.{are_distinct}
 use Rattle.tall_store.specs.declared.format.Format.{Format}
 use Rattle.tall_store.specs.declared.format.Format.TheVariants.{Int8, Int16, Int32, Int64, Uint8, Uint16, Uint32, Uint64, Double, Text}
 use Rattle.tall_store.specs.Options.{SeenOptions}
-use Rattle.tall_script.specs.Lists.{all_of}
-use Rattle.tall_script.specs.Names.{named, names_of, is_among}
-use Rattle.tall_script.specs.Memory.{Memory, scalar, texts, scalar_in, text_in}
-use Rattle.tall_script.specs.Tasks.{text_of, choice_of}
+use Rattle.tall_local.specs.Lists.{all_of}
+use Rattle.tall_local.specs.Names.{named, names_of, is_among}
+use Rattle.tall_local.specs.Memory.{Memory, scalar, texts, scalar_in, text_in}
+use Rattle.tall_local.specs.Applications.{text_of, choice_of}
 
 -- ---- values of options
 
@@ -56,15 +56,15 @@ truth_given v = None
 
 -- ---- options
 
-abbrev pub with_pair : Option (List ℕ) → Memory → Option (List (List ℕ × Memory)) → Option (List (List ℕ × Memory))
-with_pair (Some name) v (Some pairs) = Some ((name, v) ∷ pairs)
-with_pair name v pairs = None
+abbrev pub with_option : Option (List ℕ) → Memory → Option (List (List ℕ × Memory)) → Option (List (List ℕ × Memory))
+with_option (Some name) v (Some pairs) = Some ((name, v) ∷ pairs)
+with_option name v pairs = None
 
 -- pairs of a name and a value
 abbrev pub pairs_given : List Memory → Option (List (List ℕ × Memory))
 pairs_given [] = Some []
 pairs_given (name ∷ []) = None
-pairs_given (name ∷ v ∷ rest) = with_pair (text_of (scalar_in name)) v (pairs_given rest)
+pairs_given (name ∷ v ∷ rest) = with_option (text_of (scalar_in name)) v (pairs_given rest)
 
 abbrev pub option_names : List (List ℕ)
 option_names =

@@ -10,11 +10,12 @@ use Rattle.tall_store.specs.declared.faults.ReadingFault.{ReadingFault}
 use Rattle.tall_store.specs.Formats.{class_of_format}
 use Rattle.tall_store.specs.Stored.{stored_column}
 use Rattle.tall_store.specs.Stores.{name_at, format_at}
-use Rattle.tall_script.specs.Arguments.{Argument, value_given}
-use Rattle.tall_script.specs.Lists.{all_of}
-use Rattle.tall_script.specs.Refusals.{Refusal, bad_argument, bad_class}
+use Rattle.tall_local.specs.Arguments.{Argument, value_given}
+use Rattle.tall_local.specs.Lists.{all_of}
+use Rattle.tall_local.specs.Refusals.{Refusal, bad_argument, bad_class}
 use Rattle.tall_script.specs.ScriptValues.{TallValue}
-use Rattle.tall_script.specs.Values.{datastore, tall_table, Store, State}
+use Rattle.tall_local.specs.Values.{datastore, tall_table}
+use Rattle.tall_script.specs.States.{Store, State}
 use Rattle.tall_script.specs.ReadingFaults.{kind_of_reading}
 
 -- a reading fault has the number and the line of the datastore's call

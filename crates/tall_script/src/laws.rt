@@ -1,20 +1,28 @@
 //! Laws of the definitions, each the contract of a function without a body.
-ghost use Rattle.std.specs.Prelude.{◌≡◌, ◌++◌, ℕ, List, codes};
+ghost use Rattle.std.specs.Prelude.{◌≡◌, ◌≤◌, ◌++◌, ℕ, Bool, true, List, map, Some, Result};
+ghost use Rattle.tall_column.specs.Columns.{SeenColumn};
+ghost use Rattle.tall_cut.specs.declared.cutter.ReadSize.{ReadSize};
 ghost use Rattle.tall_grammar.specs.Grammar.{IsExpr, IsScript};
 ghost use Rattle.tall_grammar.specs.Lexemes.{Lexeme};
-ghost use Rattle.tall_grammar.specs.Trees.{SeenStatement, SeenScript, Tree};
-ghost use Rattle.tall_script.specs.Answers.{Answers};
-ghost use Rattle.tall_script.specs.Expressions.{value};
-ghost use Rattle.tall_script.specs.FirstRun.{first_files};
-ghost use Rattle.tall_script.specs.Locals.{Locals, function_language};
+ghost use Rattle.tall_grammar.specs.Trees.{Body, SeenFunction, SeenScript, SeenStatement, Tree};
+ghost use Rattle.tall_local.specs.Pairs.{Pair};
+ghost use Rattle.tall_outside.specs.Shelf.{Files};
+ghost use Rattle.tall_script.specs.AnswerLaws.{HasOneAllowance, HasOneAnswer};
+ghost use Rattle.tall_script.specs.MapReduce.{mapped, reduced};
+ghost use Rattle.tall_script.specs.MapReduceLaws.{joined_results, mapped_block, reduced_key};
+ghost use Rattle.tall_script.specs.NumberLaws.{AreInTurn, Ascends, numbers_of, numbers_of_script};
 ghost use Rattle.tall_script.specs.Numbering.{numbered, numbered_program};
-ghost use Rattle.tall_script.specs.RowWords.{prints};
+ghost use Rattle.tall_script.specs.OpeningLaws.{opens_none};
 ghost use Rattle.tall_script.specs.RunLaws.{BeginsWith, IsRunOf, continued};
 ghost use Rattle.tall_script.specs.Runs.{run_from};
 ghost use Rattle.tall_script.specs.ScriptLanguage.{Setting};
-ghost use Rattle.tall_script.specs.StateLaws.{Follows, TakesOn, state_after};
-ghost use Rattle.tall_script.specs.Values.{State};
+ghost use Rattle.tall_script.specs.SizeLaws.{resized};
+ghost use Rattle.tall_script.specs.Statements.{body};
+ghost use Rattle.tall_script.specs.States.{State, Store, times_allowed};
+ghost use Rattle.tall_script.specs.StatesFollow.{Follows, done_state};
+ghost use Rattle.tall_script.specs.TallTables.{tall_of_store};
 ghost use Rattle.tall_semantics.specs.Talls.{Tall};
+ghost use Rattle.tall_store.specs.declared.faults.ReadingFault.{ReadingFault};
 ghost use Rattle.tall_value.specs.Cells.{Seen};
 
 /// The expressions of the grammar's scripts have the numbers that `numbered_program` gives: the parts in their order, then
@@ -22,6 +30,24 @@ ghost use Rattle.tall_value.specs.Cells.{Seen};
 pub fn scripts_are_numbered_in_order()
     ensures expressions { (l m n : ℕ) (ts : List Lexeme) (e : Tree) → IsExpr l m ts e n → numbered e l m ≡ (e, n) }
     ensures scripts { (ts : List Lexeme) (p : SeenScript) → IsScript ts p → numbered_program p ≡ p }
+{}
+
+/// The numbers of a script's expressions, in the order of evaluation, are 1, 2, 3 and so on: those of a statement are above
+/// those of the statements before it, and those of its functions above all of them.
+pub fn numbers_are_in_turn()
+    ensures expressions { (l m n : ℕ) (ts : List Lexeme) (e : Tree) → IsExpr l m ts e n → AreInTurn m (numbers_of e) n }
+    ensures scripts { (ts : List Lexeme) (p : SeenScript) → IsScript ts p → (next : ℕ) × AreInTurn 1 (numbers_of_script p) next }
+{}
+
+/// An expression's number is above those of its parts, and so it is in each part.
+pub fn wholes_are_above_their_parts()
+    ensures { (l m n : ℕ) (ts : List Lexeme) (e : Tree) → IsExpr l m ts e n → Ascends e }
+{}
+
+/// For each words and files there is exactly one answer, and one number of times that a file may be opened.
+pub fn a_script_has_one_answer()
+    ensures answer { (files : Files) (name : List ℕ) → HasOneAnswer files name }
+    ensures openings { (files : Files) (name file : List ℕ) → HasOneAllowance files name file }
 {}
 
 /// A run is that of its statements, each from the state that the one before it left, up to the first that fails: its text
@@ -39,17 +65,31 @@ pub fn a_longer_run_begins_with_the_shorter()
         → BeginsWith (run_from setting entries s).text (run_from setting (entries ++ more) s).text }
 {}
 
-/// An expression of a function takes values of the iterator, which never goes back, and changes nothing else.
-pub fn expressions_of_functions_take_values_alone()
-    ensures { (values : List Seen) (e : Tree) (s : Locals) → TakesOn s (state_after (value (function_language values) e s)) }
-{}
-
 /// A run only adds datastores and openings, so each datastore keeps its place.
 pub fn datastores_keep_their_places()
     ensures { (setting : Setting) (entries : List SeenStatement) (s : State Tall) → Follows s (run_from setting entries s).state }
 {}
 
-/// The first script over the first file, from the bytes of both to the line that is printed.
-pub fn the_first_script_from_its_bytes()
-    ensures { Answers first_files (codes "s.m") (prints (codes "s = int16 31767\n")) }
+/// A longer run may open a file no less often.
+pub fn openings_only_grow()
+    ensures { (setting : Setting) (entries more : List SeenStatement) (s : State Tall) (file : List ℕ)
+        → times_allowed file (run_from setting entries s).state.opened ≤ times_allowed file (run_from setting (entries ++ more) s).state.opened }
+{}
+
+/// A statement that makes no datastore by a call, gathers nothing and runs no mapreduce leaves what was opened.
+pub fn other_statements_open_nothing()
+    ensures { (setting : Setting) (line : ℕ) (shown : Bool) (b : Body) (s : State Tall) → opens_none b ≡ true → (done_state (body setting line shown b s)).opened ≡ s.opened }
+{}
+
+/// Another ReadSize leaves the tall table of a datastore as it was, with its values and its faults.
+pub fn read_size_leaves_tables()
+    ensures { (size : ReadSize) (d : Store) (files : Files) (place : ℕ) → tall_of_store files place (Some (resized size d)) ≡ tall_of_store files place (Some d) }
+{}
+
+/// Both phases of mapreduce are calls on empty stores, appended in the order of blocks and of keys. So the calls need nothing of
+/// each other.
+pub fn mapreduce_is_made_of_calls_on_empty_stores()
+    ensures map_phase { (d : Store) (f : SeenFunction) (blocks : List (Result (List (List ℕ × SeenColumn)) ReadingFault)) (pairs : List Pair)
+        → mapped d f blocks pairs ≡ joined_results (map (mapped_block d f) blocks) pairs }
+    ensures reduce_phase { (f : SeenFunction) (pairs : List Pair) (keys : List Seen) (out : List Pair) → reduced f pairs keys out ≡ joined_results (map (reduced_key f pairs) keys) out }
 {}

@@ -1,0 +1,6 @@
+pub mod StatesKept
+mod LocalsKept
+mod PairLemmas
+mod CallsKept
+mod LiftedValues
+pub mod CallsAppended

@@ -1,0 +1,32 @@
+//! Laws of the definitions, each the contract of a function without a body.
+ghost use Rattle.std.specs.Prelude.{◌≡◌, List, []};
+ghost use Rattle.tall_grammar.specs.Trees.{SeenFunction, Steps, Tree};
+ghost use Rattle.tall_local.specs.CallLaws.{Proceeds, HaveOneClass, state_of_run};
+ghost use Rattle.tall_local.specs.Calls.{behind_pairs, call_of, run_steps};
+ghost use Rattle.tall_local.specs.Expressions.{value};
+ghost use Rattle.tall_local.specs.Locals.{Held, Locals, function_language};
+ghost use Rattle.tall_local.specs.Pairs.{Pair};
+ghost use Rattle.tall_local.specs.StateLaws.{TakesOn, state_after};
+ghost use Rattle.tall_value.specs.Cells.{Seen};
+
+/// An expression of a function takes values of the iterator, which never goes back, and changes nothing else.
+pub fn expressions_of_functions_take_values_alone()
+    ensures { (key_values : List Seen) (e : Tree) (s : Locals) → TakesOn s (state_after (value (function_language key_values) e s)) }
+{}
+
+/// The statements of a function begin turns, whose number stays below the limit, take values of the iterator, and add pairs
+/// behind those of the store, whose keys then still have one class, and whose values have one.
+pub fn statements_of_functions_go_on()
+    ensures { (key_values : List Seen) (bs : Steps) (s : Locals) → Proceeds s (state_of_run (run_steps key_values bs s)) }
+{}
+
+/// After a call the keys of its store have one class, and the values have one, if they had before it.
+pub fn a_store_keeps_its_classes()
+    ensures { (f : SeenFunction) (arguments : List Held) (key_values : List Seen) (pairs : List Pair) → HaveOneClass pairs → HaveOneClass (call_of f arguments key_values pairs).pairs }
+{}
+
+/// A call on a store is the call on an empty store, appended: the first of its pairs that doesn't fit the store comes before
+/// the call's own fault.
+pub fn a_call_on_a_store_is_appended()
+    ensures { (f : SeenFunction) (arguments : List Held) (key_values : List Seen) (pairs : List Pair) → call_of f arguments key_values pairs ≡ behind_pairs pairs (call_of f arguments key_values []) }
+{}

@@ -1,5 +1,0 @@
-use Rattle.tall_script.proofs.FromBytes.{first_answer}
-use Rattle.tall_script.proofs.laws.the_first_script_from_its_bytes.Goals as goal
-
-pub returns : goal.returns
-returns c = first_answer

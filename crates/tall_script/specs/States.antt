@@ -1,0 +1,45 @@
+-- What a script has so far: its names, its datastores, and how often files may have been opened. `D` stands for a tall column
+-- or a tall scalar.
+use Rattle.std.specs.Prelude.{ℕ, ◌+◌, if◌then◌else◌, List, [], ◌∷◌, ◌++◌}
+use Rattle.tall_semantics.specs.Faults.{At}
+use Rattle.tall_store.specs.Stores.{SeenStore}
+use Rattle.tall_local.specs.Names.{is_among}
+use Rattle.tall_local.specs.Values.{Value}
+
+-- a datastore, with the number and the line of the call that made it or, for one that a property statement made, of the
+-- call that made the datastore which it was
+pub record Store : Type 0 where
+  pub at : At
+  pub store : SeenStore
+
+-- files that may be opened, each so often
+pub record Openings : Type 0 where
+  pub files : List (List ℕ)
+  pub times : ℕ
+
+-- the names in the order of their first assignments, the datastores in the order of their making, and how often files
+-- may have been opened
+pub record State (D : Type 0) : Type 0 where
+  pub names : List (List ℕ × Value D)
+  pub stores : List Store
+  pub opened : List Openings
+
+-- at the start of a script
+abbrev pub empty_state : {D : Type 0} → State D
+empty_state = record { names = []; stores = []; opened = [] }
+
+-- ---- openings
+
+abbrev pub with_openings : {D : Type 0} → List Openings → State D → State D
+with_openings more s = record s { opened = s.opened ++ more }
+
+-- how often a file may be opened, of all these
+abbrev pub times_allowed : List ℕ → List Openings → ℕ
+times_allowed file [] = 0
+times_allowed file (o ∷ rest) = (if is_among file o.files then o.times else 0) + times_allowed file rest
+
+-- ---- datastores
+
+-- one more datastore, which is the value
+abbrev pub with_store : {D : Type 0} → Store → State D → State D
+with_store store s = record s { stores = s.stores ++ store ∷ [] }
