@@ -1,0 +1,9 @@
+pub mod Rows
+pub mod Cutting
+pub mod Following
+pub mod Bits
+pub mod Scans
+pub mod Fronts
+pub mod Fills
+pub mod Texts
+pub mod Worked
