@@ -1,0 +1,4 @@
+mod Rules
+mod Numbers
+mod Finding
+mod Tables
