@@ -1,5 +1,5 @@
 //! Columns.
-ghost use Rattle.std.specs.Prelude.{◌≡◌, ◌<◌, ◌≤◌, [], IfOk, MatchResult, Some, length, slice_get};
+ghost use Rattle.std.specs.Prelude.{◌≡◌, ◌<◌, ◌≤◌, [], IfOk, MatchResult, Some, length, map, slice_get};
 ghost use Rattle.tall_value.specs.declared.class.Class.TheVariants as class;
 ghost use Rattle.tall_value.specs.Cells.{seen};
 ghost use Rattle.tall_dense.specs.Dense.{shown};
@@ -7,7 +7,7 @@ ghost use Rattle.tall_dense.specs.Columns.{class_of_cell, followed_by, rows_betw
 
 use std::alloc::{AllocError, Global};
 use std::marker::Model;
-use tall_dense::Values;
+use tall_dense::{Stored, Values};
 use tall_value::{Cell, Class};
 
 /// A column: a class and a list of cells of it, which contracts see as such. It keeps its allocator.
@@ -38,15 +38,23 @@ impl Column {
         }
     }
 
-    /// The column of values.
-    pub(crate) fn of_values(alloc: Global, values: Values) -> Column
+    /// The column of values, which are not copied.
+    pub fn of_values(alloc: Global, values: Values) -> Column
         ensures { result ≡ shown values }
     {
         Column { values, alloc }
     }
 
-    /// The values.
-    pub(crate) fn values(&self) -> &Values
+    /// The column whose cells stand in a vector, which is not copied.
+    pub fn of<T: Stored>(alloc: Global, items: Vec<T>) -> Column
+        ensures { result ≡ record { class = T.class; cells = map T.shown items.items } }
+    {
+        Column::of_values(alloc, T::values(items))
+    }
+
+    /// The values, lent as they are kept: a match on them gives a vector of the class's type, or the buffer of texts, and
+    /// the cells are `shown` of it. A function over `I: Integer`, or over `T: Stored`, serves all such vectors.
+    pub fn values(&self) -> &Values
         ensures { shown result.now ≡ self.now }
     {
         &self.values

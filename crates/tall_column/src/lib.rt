@@ -17,7 +17,7 @@ mod unaries;
 pub use column::Column;
 pub use rows::{map_binary, map_scalar, map_unary};
 pub use table::{Table, Value};
-pub use tall_dense::OpFault;
+pub use tall_dense::{Integer, OpFault, Stored, Texts, Values};
 
 #[cfg(test)]
 mod row_tests;

@@ -117,16 +117,16 @@ impl Texts {
         self.ends.as_slice().len()
     }
 
-    /// The text at a place.
-    fn get(&self, at: usize) -> &str
+    /// The text at a place, counted from 0.
+    pub fn get(&self, at: usize) -> &str
         requires { at < length self.now }
         ensures { slice_get self.now at ≡ Some result.now }
     {
         text_at(self.bytes.as_slice(), self.ends.as_slice(), at)
     }
 
-    /// Adds a text at the end.
-    fn push(&mut self, text: &str) -> Result<(), AllocError>
+    /// Adds a text at the end; refused for want of memory alone, with the texts as they were.
+    pub fn push(&mut self, text: &str) -> Result<(), AllocError>
         ensures { MatchResult result (λ _. self.new ≡ self.old ++ text.now ∷ []) (λ _. self.new ≡ self.old) }
     {
         add_bytes(&mut self.bytes, &mut self.ends, text.as_bytes())
