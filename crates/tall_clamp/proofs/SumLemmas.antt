@@ -47,6 +47,10 @@ more_rows low high a b r ns ms ks order p q f e x u v =
     ∙ ap (clamped_sum low high x) (sym e)
 
 -- one row more of the rows done
+pub rows_more : {V : Type 0} (vs : List V) (i : ℕ) (v : V) → i < length vs → v ≡ get_or vs i v → take (i + 1) vs ≡ take i vs ++ v ∷ []
+rows_more vs i v h e =
+    ap (λ (n : ℕ). take n vs) (add-one i) ∙ take-suc vs i v h ∙ ap (λ (w : _). take i vs ++ w ∷ []) (sym e)
+
 pub numbers_more : {V : Type 0} (number : V → ℤ) (vs : List V) (i : ℕ) (v : V) → i < length vs → v ≡ get_or vs i v
     → map number (take (i + 1) vs) ≡ map number (take i vs) ++ number v ∷ []
 numbers_more number vs i v h e =

@@ -137,6 +137,12 @@ pub and-assoc : (a b c : Bool) → ((a && b) && c) ≡ (a && (b && c))
 and-assoc true b c = refl
 and-assoc false b c = refl
 
+pub false-or : (a : Bool) → (false || a) ≡ a
+false-or a = refl
+
+pub true-and : (a : Bool) → (true && a) ≡ a
+true-and a = refl
+
 pub or-false : (a : Bool) → (a || false) ≡ a
 or-false true = refl
 or-false false = refl

@@ -1,12 +1,16 @@
 //! The clamp function of a block of a saturating sum.
-ghost use Rattle.std.specs.Prelude.{◌≡◌, ℤ, ◌≤ℤ◌, map};
+ghost use Rattle.std.specs.Prelude.{◌≡◌, ℤ, ◌≤ℤ◌, ◌+◌, ◌<◌, ◌^◌, ◌∷◌, length, map};
 ghost use Rattle.std.specs.List.{flat_map};
 ghost use Rattle.tall_clamp.specs.Clamps.{apply, row_clamp, Sums};
 
 use crate::bounds::{Bounds, between};
 use crate::join::{one_after, within_reach};
+use crate::runs::of_run;
 use std::marker::{Model, PhantomData};
 use tall_int::{IntClass, clamp};
+
+/// How many rows one loop takes, so that their shift has room.
+const MOST: usize = 1 << 39;
 
 /// A function from a number of the class: add a shift, then go to the nearest number from a least to a greatest one.
 /// Contracts see it as these three numbers. It is what a block of rows does to a saturating sum.
@@ -67,15 +71,32 @@ impl<I: IntClass> Clamp<I> {
         ))
     }
 
+    /// What a first row and those after it do.
+    fn of_run(first: I, rest: &[I]) -> Clamp<I>
+        requires { length rest.now + 1 < 2 ^ 40 }
+        ensures { Sums I.MIN I.MAX (I.number first ∷ map I.number rest.now) result }
+    {
+        Clamp {
+            bounds: of_run(first, rest),
+            class: PhantomData,
+        }
+    }
+
     /// What a block of rows does to a saturating sum: from each number of the class, the sum saturates row by row.
     pub fn of_rows(rows: &[I]) -> Clamp<I>
         ensures { Sums I.MIN I.MAX (map I.number rows.now) result }
     {
-        let mut clamp = Clamp::of_value(I::from_wide(0));
-        for v in rows {
-            clamp = clamp.then(Clamp::of_value(*v));
+        match rows {
+            [] => Clamp::of_value(I::from_wide(0)),
+            [first, rest @ ..] => {
+                if rest.len() <= MOST {
+                    Clamp::of_run(*first, rest)
+                } else {
+                    let (front, back) = rest.split_at(MOST);
+                    Clamp::of_run(*first, front).then(Clamp::of_rows(back))
+                }
+            }
         }
-        clamp
     }
 
     /// What consecutive blocks do, joined in order: from each number of the class, the saturating sum of all their

@@ -8,6 +8,7 @@ mod extremes;
 mod faults;
 mod folds;
 mod join;
+mod runs;
 mod sums;
 mod terms;
 #[cfg(test)]
@@ -17,10 +18,10 @@ mod truths;
 
 pub use blocks::{fold_blocks, fold_rows, outcome};
 pub use clamps::Clamp;
-pub use extremes::{Greatest, Least};
+pub use extremes::{Choice, Extreme, Greatest, Larger, Least, Smaller};
 pub use faults::FinishFault;
 pub use folds::Fold;
 pub use sums::ClampSum;
 pub use terms::Term;
 pub use totals::ExactSum;
-pub use truths::{AllTrue, AnyTrue, Count};
+pub use truths::{AllTrue, And, AnyTrue, Connective, Count, Or, Truth};

@@ -1,20 +1,21 @@
 //! Saturating sums of an integer class.
-ghost use Rattle.std.specs.Prelude.{◌≡◌, ℤ, ℕ, ◌+◌, ◌≤ℤ◌, pos, refl, map};
+ghost use Rattle.std.specs.Prelude.{◌≡◌, ℤ, ℕ, ◌+◌, ◌<◌, ◌^◌, ◌≤ℤ◌, pos, refl, length, map};
 ghost use Rattle.std.proofs.Common.{◌∙◌};
 ghost use Rattle.tall_int.specs.Numbers.{nearest};
 ghost use Rattle.tall_int.specs.Sums.{clamped_sum};
 ghost use Rattle.tall_clamp.specs.Clamps.{after, apply, row_clamp};
-ghost use Rattle.tall_clamp.specs.Folds.{joined_by, no_clamp, one_row, IsSum};
+ghost use Rattle.tall_clamp.specs.Folds.{joined_by, no_clamp, of_rows, one_row, IsSum};
 ghost use Rattle.tall_clamp.specs.SumLaws.{no_clamp_is_sum, row_is_sum, after_is_sum, after-assoc, after-left, after-right, saturated_sum};
 
 use crate::bounds::{Bounds, between};
 use crate::folds::Fold;
 use crate::join::one_after;
+use crate::runs::of_run;
 use std::marker::{Model, PhantomData};
 use tall_int::{IntClass, clamp};
 
-/// The sum of a column in its class: each row is added in the class, so that the sum saturates row by row (MathWorks,
-/// sum with 'native'; Integers).
+/// The sum of a column in its class (MathWorks, sum with 'native'). That each row is added in the class, so that the sum
+/// saturates row by row from the first on, is the language's own rule.
 ///
 /// A fold of rows is kept as the clamp function from the sum before them to the sum after them, so that blocks can be
 /// folded apart and joined.
@@ -56,6 +57,21 @@ impl<I: IntClass> ClampSum<I> {
             },
             rows: 1,
             class: PhantomData,
+        }
+    }
+
+    /// The fold of a slice's rows in one loop: what `fold_rows` gives.
+    pub fn of_slice(rows: &[I]) -> ClampSum<I>
+        requires { length rows.now < 2 ^ 40 }
+        ensures { result ≡ of_rows (joined_by after) (one_row (λ v. row_clamp I.MIN I.MAX (I.number v))) (no_clamp, 0) rows.now }
+    {
+        match rows {
+            [] => ClampSum::unit(),
+            [first, rest @ ..] => ClampSum {
+                bounds: of_run(*first, rest),
+                rows: 1 + rest.len() as u64,
+                class: PhantomData,
+            },
         }
     }
 

@@ -1,17 +1,18 @@
 //! The exact total of a column of doubles.
-ghost use Rattle.std.specs.Prelude.{◌≡◌, ℤ, ℕ, ◌^◌, pos, None, Some, refl};
+ghost use Rattle.std.specs.Prelude.{◌≡◌, ℤ, ℕ, ◌<◌, ◌^◌, pos, length, map, None, Some, refl};
 ghost use Rattle.std.proofs.Common.{◌∙◌, ap};
-ghost use Rattle.tall_clamp.specs.Folds.{added, joined_by, one_row, IsTerm, IsTotal};
-ghost use Rattle.tall_clamp.specs.Outcomes.{as_double, exact_sum};
+ghost use Rattle.tall_clamp.specs.Folds.{added, joined_by, of_rows, one_row, IsTerm, IsTotal};
+ghost use Rattle.tall_clamp.specs.Outcomes.{as_double, exact_sum, total};
 ghost use Rattle.tall_clamp.specs.FoldLaws.{joined_by-assoc, joined_by-left, joined_by-right, held, added-assoc, added-zero, zero-added, added_is_total, term_is_total, nothing_is_total, total_outcome, exact_sum_is};
 
 use crate::folds::Fold;
+use crate::runs::{plus, total_of};
 use crate::terms::Term;
 use std::marker::Model;
-use tall_int::Whole;
+use tall_int::{IntClass, Whole};
 
-/// The exact total of terms: NaN where a NaN was met, and else none exactly where the total is above 2^53 in magnitude
-/// (MathWorks, sum; a double of the language is whole and at most 2^53).
+/// The exact total of terms: NaN where a NaN was met (MathWorks, sum), and else none exactly where the total is above
+/// 2^53 in magnitude. That the total is exact, and only the total must be a double, is the language's own rule.
 #[derive(Clone, Copy, Debug)]
 pub struct ExactSum {
     total: Option<i128>,
@@ -47,7 +48,44 @@ fn sum(a: Option<i128>, b: Option<i128>) -> Option<i128>
 fn double(n: i128) -> Option<Whole>
     ensures { result ≡ as_double n }
 {
-    i64::try_from(n).ok().and_then(Whole::new)
+    Whole::of_number(n).ok()
+}
+
+impl ExactSum {
+    /// The exact sum of a slice of an integer class in one loop: what `fold_rows` gives of its terms.
+    pub fn of_ints<I: IntClass>(rows: &[I]) -> ExactSum
+        requires { length rows.now < 2 ^ 40 }
+        ensures fold { result ≡ of_rows (joined_by added) (one_row (λ v. v)) (Some (pos 0), 0) (map (λ v. Some (I.number v)) rows.now) }
+        ensures total { result ≡ (Some (total (map I.number rows.now)), length rows.now) }
+    {
+        ExactSum {
+            total: Some(total_of(rows)),
+            rows: rows.len() as u64,
+        }
+    }
+
+    /// The exact sum of a slice of doubles in one loop: what `fold_rows` gives of its terms.
+    pub fn of_wholes(rows: &[Whole]) -> ExactSum
+        requires { length rows.now < 2 ^ 40 }
+        ensures { result ≡ of_rows (joined_by added) (one_row (λ v. v)) (Some (pos 0), 0) rows.now }
+    {
+        let mut total = 0i128;
+        for v in rows {
+            match v.get() {
+                Some(n) => total = plus(total, n),
+                None => {
+                    return ExactSum {
+                        total: None,
+                        rows: rows.len() as u64,
+                    };
+                }
+            }
+        }
+        ExactSum {
+            total: Some(total),
+            rows: rows.len() as u64,
+        }
+    }
 }
 
 impl Fold for ExactSum {

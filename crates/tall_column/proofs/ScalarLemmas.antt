@@ -1,5 +1,5 @@
 -- A scalar that counts as a number of a column's class does what the number does.
-use Rattle.std.specs.Prelude.{ℤ, pos, int_le, unsigned_abs, not, ◌&&◌, ◌||◌, Bool, true, false, if◌then◌else◌, ◌==◌, Option, None, Some, Result, Ok}
+use Rattle.std.specs.Prelude.{ℤ, pos, int_le, unsigned_abs, not, ◌&&◌, ◌||◌, Bool, true, false, if◌then◌else◌, ◌==◌, Option, None, Some, option_map, Result, Ok}
 use Rattle.std.proofs.Common.{ℕ, ◌+◌, ◌≡◌, List, [], ◌∷◌, get_or, map, refl, sym, ◌∙◌, ap}
 use Rattle.tall_int.specs.declared.operators.Arith.{Arith}
 use Rattle.tall_int.specs.declared.operators.Arith.TheVariants as arith
@@ -15,7 +15,8 @@ use Rattle.tall_value.specs.Columns.{numbered}
 use Rattle.tall_value.specs.Elementwise.{at_row, each_row, beside}
 use Rattle.std.proofs.lemmas.Bool.{eqb-true}
 use Rattle.tall_value.specs.Classes.{is_same, place}
-use Rattle.tall_column.specs.Scalars.{counted, in_range}
+use Rattle.tall_dense.specs.Ranges.{in_range}
+use Rattle.tall_column.specs.Scalars.{number_beside}
 
 -- ---- the number that a scalar counts as
 
@@ -51,17 +52,19 @@ some_if : (b : Bool) (o : Option ℤ) (n : ℤ) → (if b then o else None) ≡ 
 some_if true o n h = (refl, h)
 some_if false o n h = absurd cc
 
-same_number : (low high v n : ℤ) → in_range low high v ≡ Some n → ◌≡◌ {A = Option ℤ} (Some v) (Some n)
-same_number low high v n h = (some_if (int_le low v && int_le v high) (Some v) n h).1
+pub stands : (k : IntKind) (n : ℤ) (s : Seen) → number_beside k s ≡ Some n → StandsFor k n s
+stands k n (whole j v) h =
+    let both = some_if (is_same j k) (Some v) n h in
+    record { beside = same_kind j k both.0; counts = both.1 }
+stands k n (logical b) h = record { beside = tt; counts = h }
+stands k n (double d) h = record { beside = tt; counts = h }
+stands k n (text t) h = absurd (let no : ◌≡◌ {A = Option ℤ} None (Some n) = h in cc)
 
-pub stands : (k : IntKind) (low high n : ℤ) (s : Seen) → counted k low high s ≡ Some n → StandsFor k n s
-stands k low high n (whole j v) h =
-    let both = some_if (is_same j k) (in_range low high v) n h in
-    record { beside = same_kind j k both.0; counts = same_number low high v n both.1 }
-stands k low high n (logical b) h = record { beside = tt; counts = same_number low high (bit b) n h }
-stands k low high n (double (Some v)) h = record { beside = tt; counts = same_number low high v n h }
-stands k low high n (double None) h = absurd (let no : ◌≡◌ {A = Option ℤ} None (Some n) = h in cc)
-stands k low high n (text t) h = absurd (let no : ◌≡◌ {A = Option ℤ} None (Some n) = h in cc)
+-- what is made of a number in a range stands for the number
+pub in_range-is : {A : Type 0} (f : A → ℤ) (low high n : ℤ) (a : A) → option_map f (Some a) ≡ in_range low high n → f a ≡ n
+in_range-is f low high n a h =
+    let both = some_if (int_le low n && int_le n high) (Some n) (f a) (sym h) in
+    let same : ◌≡◌ {A = Option ℤ} (Some n) (Some (f a)) = both.1 in cc
 
 -- ---- what an operator looks at in it
 
@@ -154,12 +157,11 @@ each_same shown f g same i (a ∷ items) =
     ap (λ r. at_row i r (each_row f (numbered (i + 1) (map shown items)))) (same a)
     ∙ ap (λ rest. at_row i (g (shown a)) rest) (each_same shown f g same (i + 1) items)
 
--- the rows beside a scalar are those beside the value that it counts as
-pub rows_beside : {A : Type 0} (shown : A → Seen) (number : A → ℤ) (op : Binary) (left : Bool) (k : IntKind) (value : A) (s : Seen) (items : List A)
-    → ((a : A) → shown a ≡ whole k (number a)) → StandsFor k (number value) s
-    → each_row (beside op left s) (numbered 0 (map shown items)) ≡ each_row (beside op left (shown value)) (numbered 0 (map shown items))
-rows_beside shown number op left k value s items is h =
-    each_same shown (beside op left s) (beside op left (shown value))
-    (λ a. ap (λ c. beside op left s c) (is a) ∙ beside_same op left k (number value) (number a) s h
-    ∙ ap (λ c. beside op left c (whole k (number a))) (sym (is value)) ∙ ap (λ c. beside op left (shown value) c) (sym (is a)))
+-- the rows beside a scalar are those beside the number that it counts as
+pub rows_beside : {A : Type 0} (shown : A → Seen) (number : A → ℤ) (op : Binary) (left : Bool) (k : IntKind) (n : ℤ) (s : Seen) (items : List A)
+    → ((a : A) → shown a ≡ whole k (number a)) → StandsFor k n s
+    → each_row (beside op left s) (numbered 0 (map shown items)) ≡ each_row (beside op left (whole k n)) (numbered 0 (map shown items))
+rows_beside shown number op left k n s items is h =
+    each_same shown (beside op left s) (beside op left (whole k n))
+    (λ a. ap (λ c. beside op left s c) (is a) ∙ beside_same op left k n (number a) s h ∙ ap (λ c. beside op left (whole k n) c) (sym (is a)))
     0 items

@@ -24,3 +24,7 @@ AnswersIfMade rows (Ok None) = Unit {0}
 AnswersIfMade rows (Ok (Some values)) = rows ≡ Ok (numbered 0 (shown values).cells)
 AnswersIfMade rows (Err (At row fault)) = rows ≡ Err (row, fault)
 AnswersIfMade rows (Err Memory) = Unit {0}
+
+-- an operator of a scalar and a cell
+abbrev pub with_scalar : (Seen → Seen → Result Seen CellFault) → Bool → Seen → Seen → Result Seen CellFault
+with_scalar op scalar_left scalar c = if scalar_left then op scalar c else op c scalar

@@ -3,15 +3,17 @@
 ghost use Rattle.std.specs.Prelude.{◌≡◌, length, map};
 ghost use Rattle.tall_value.specs.Cells.{double, whole};
 ghost use Rattle.tall_value.specs.Columns.{numbered};
-ghost use Rattle.tall_value.specs.Elementwise.{binary_rows, each_pair, each_row, scalar_rows};
+ghost use Rattle.tall_value.specs.Elementwise.{binary_rows, each_pair};
 ghost use Rattle.tall_dense.specs.Dense.{shown};
-ghost use Rattle.tall_dense.specs.Rows.{Answers, with_scalar};
+ghost use Rattle.tall_dense.specs.Rows.{Answers};
 ghost use Rattle.tall_column.specs.Mapped.{AnswersIfMade};
 
 use crate::comparisons::{AtLeast, AtMost, Different, Equal, Greater, Less};
+use crate::integers::widely;
+use crate::logicals::{And, Or};
 use crate::{doubles, integers};
 use std::alloc::Global;
-use tall_dense::{Integer, OpFault, PairOperator, Stored, Values, beside, pairs};
+use tall_dense::{Integer, OpFault, PairOperator, Stored, Values, pairs};
 use tall_int::Whole;
 use tall_value::Binary;
 
@@ -26,40 +28,27 @@ pub(crate) fn made<T: Stored>(computed: Result<Vec<T>, OpFault>) -> Result<Optio
 }
 
 /// The column of the operator at each row of two slices of one length.
-fn pair_values<T: Stored, O: PairOperator<T>>(
+fn pair_values<A: Stored, B: Stored, O: PairOperator<A, B>>(
     alloc: Global,
     operator: O,
-    a: &[T],
-    b: &[T],
+    a: &[A],
+    b: &[B],
 ) -> Result<Option<Values>, OpFault>
-    requires { length (map T.shown b.now) ≡ length (map T.shown a.now) }
-    ensures { AnswersIfMade (each_pair (O.gives operator) (numbered 0 (map T.shown a.now)) (numbered 0 (map T.shown b.now))) result }
+    requires { length (map B.shown b.now) ≡ length (map A.shown a.now) }
+    ensures { AnswersIfMade (each_pair (O.gives operator) (numbered 0 (map A.shown a.now)) (numbered 0 (map B.shown b.now))) result }
 {
     made(pairs(alloc, &operator, a, b))
 }
 
-/// The column of the operator at each row and a scalar.
-fn values_beside<T: Stored, O: PairOperator<T>>(
-    alloc: Global,
-    operator: O,
-    items: &[T],
-    scalar: T,
-    scalar_left: bool,
-) -> Result<Option<Values>, OpFault>
-    ensures { AnswersIfMade (each_row (with_scalar (O.gives operator) scalar_left (T.shown scalar)) (numbered 0 (map T.shown items.now))) result }
-{
-    made(beside(alloc, operator, items, scalar, scalar_left))
-}
-
-/// The comparison of two columns of a class; none for another operator.
-fn compare_pairs<T: Stored>(
+/// A comparison, `&` or `|` of two columns, of one class or of two; none for another operator.
+fn compare_pairs<A: Stored, B: Stored>(
     alloc: Global,
     op: Binary,
-    a: &[T],
-    b: &[T],
+    a: &[A],
+    b: &[B],
 ) -> Result<Option<Values>, OpFault>
-    requires { length (map T.shown b.now) ≡ length (map T.shown a.now) }
-    ensures { AnswersIfMade (binary_rows op (numbered 0 (map T.shown a.now)) (numbered 0 (map T.shown b.now))) result }
+    requires { length (map B.shown b.now) ≡ length (map A.shown a.now) }
+    ensures { AnswersIfMade (binary_rows op (numbered 0 (map A.shown a.now)) (numbered 0 (map B.shown b.now))) result }
 {
     match op {
         Binary::Eq => pair_values(alloc, Equal, a, b),
@@ -68,11 +57,13 @@ fn compare_pairs<T: Stored>(
         Binary::Le => pair_values(alloc, AtMost, a, b),
         Binary::Gt => pair_values(alloc, Greater, a, b),
         Binary::Ge => pair_values(alloc, AtLeast, a, b),
+        Binary::And => pair_values(alloc, And, a, b),
+        Binary::Or => pair_values(alloc, Or, a, b),
         _ => Ok(None),
     }
 }
 
-/// Arithmetic or a comparison of two columns of an integer class; none for another operator.
+/// The operator on two columns of an integer class; none where no loop does it.
 fn integer_pairs<I: Integer>(
     alloc: Global,
     op: Binary,
@@ -83,17 +74,20 @@ fn integer_pairs<I: Integer>(
     ensures { AnswersIfMade (binary_rows op (numbered 0 (map (λ x. whole I.KIND (I.number x)) a.now)) (numbered 0 (map (λ x. whole I.KIND (I.number x)) b.now))) result }
 {
     match op {
-        Binary::Add => pair_values(alloc, integers::Sum, a, b),
-        Binary::Sub => pair_values(alloc, integers::Difference, a, b),
-        Binary::Mul => pair_values(alloc, integers::Product, a, b),
+        Binary::Add => pair_values(alloc, widely(integers::Sum), a, b),
+        Binary::Sub => pair_values(alloc, widely(integers::Difference), a, b),
+        Binary::Mul => pair_values(alloc, widely(integers::Product), a, b),
         Binary::Div => pair_values(alloc, integers::Quotient, a, b),
         Binary::Modulo => pair_values(alloc, integers::Remainder, a, b),
         Binary::Idivide(how) => pair_values(alloc, integers::RoundedQuotient { how }, a, b),
+        Binary::BitAnd => pair_values(alloc, integers::BitAnd, a, b),
+        Binary::BitOr => pair_values(alloc, integers::BitOr, a, b),
+        Binary::BitXor => pair_values(alloc, integers::BitXor, a, b),
         _ => compare_pairs(alloc, op, a, b),
     }
 }
 
-/// Arithmetic or a comparison of two columns of doubles; none for another operator.
+/// The operator on two columns of doubles; none where no loop does it.
 fn double_pairs(
     alloc: Global,
     op: Binary,
@@ -113,71 +107,48 @@ fn double_pairs(
     }
 }
 
-/// The comparison of a column with a scalar of its class; none for another operator.
-pub(crate) fn compare_beside<T: Stored>(
+/// A comparison, `&` or `|` of a column of one class and one of any other; none for another operator and for texts.
+fn compare_with<A: Stored>(
     alloc: Global,
     op: Binary,
-    items: &[T],
-    scalar: T,
-    scalar_left: bool,
+    a: &[A],
+    b: &Values,
 ) -> Result<Option<Values>, OpFault>
-    ensures { AnswersIfMade (scalar_rows op scalar_left (T.shown scalar) (numbered 0 (map T.shown items.now))) result }
+    requires { length (shown b.now).cells ≡ length (map A.shown a.now) }
+    ensures { AnswersIfMade (binary_rows op (numbered 0 (map A.shown a.now)) (numbered 0 (shown b.now).cells)) result }
 {
-    match op {
-        Binary::Eq => values_beside(alloc, Equal, items, scalar, scalar_left),
-        Binary::Ne => values_beside(alloc, Different, items, scalar, scalar_left),
-        Binary::Lt => values_beside(alloc, Less, items, scalar, scalar_left),
-        Binary::Le => values_beside(alloc, AtMost, items, scalar, scalar_left),
-        Binary::Gt => values_beside(alloc, Greater, items, scalar, scalar_left),
-        Binary::Ge => values_beside(alloc, AtLeast, items, scalar, scalar_left),
-        _ => Ok(None),
+    match b {
+        Values::I8(b) => compare_pairs(alloc, op, a, b.as_slice()),
+        Values::I16(b) => compare_pairs(alloc, op, a, b.as_slice()),
+        Values::I32(b) => compare_pairs(alloc, op, a, b.as_slice()),
+        Values::I64(b) => compare_pairs(alloc, op, a, b.as_slice()),
+        Values::U8(b) => compare_pairs(alloc, op, a, b.as_slice()),
+        Values::U16(b) => compare_pairs(alloc, op, a, b.as_slice()),
+        Values::U32(b) => compare_pairs(alloc, op, a, b.as_slice()),
+        Values::U64(b) => compare_pairs(alloc, op, a, b.as_slice()),
+        Values::Logical(b) => compare_pairs(alloc, op, a, b.as_slice()),
+        Values::Double(b) => compare_pairs(alloc, op, a, b.as_slice()),
+        Values::Text(_) => Ok(None),
     }
 }
 
-/// Arithmetic or a comparison of a column of an integer class with a scalar of the class; none for another operator.
-pub(crate) fn integer_beside<I: Integer>(
-    alloc: Global,
-    op: Binary,
-    items: &[I],
-    scalar: I,
-    scalar_left: bool,
-) -> Result<Option<Values>, OpFault>
-    ensures { AnswersIfMade (scalar_rows op scalar_left (whole I.KIND (I.number scalar)) (numbered 0 (map (λ x. whole I.KIND (I.number x)) items.now))) result }
+/// The operator on two columns of two classes; none where no loop does it.
+fn mixed_pairs(alloc: Global, op: Binary, a: &Values, b: &Values) -> Result<Option<Values>, OpFault>
+    requires { length (shown b.now).cells ≡ length (shown a.now).cells }
+    ensures { AnswersIfMade (binary_rows op (numbered 0 (shown a.now).cells) (numbered 0 (shown b.now).cells)) result }
 {
-    match op {
-        Binary::Add => values_beside(alloc, integers::Sum, items, scalar, scalar_left),
-        Binary::Sub => values_beside(alloc, integers::Difference, items, scalar, scalar_left),
-        Binary::Mul => values_beside(alloc, integers::Product, items, scalar, scalar_left),
-        Binary::Div => values_beside(alloc, integers::Quotient, items, scalar, scalar_left),
-        Binary::Modulo => values_beside(alloc, integers::Remainder, items, scalar, scalar_left),
-        Binary::Idivide(how) => values_beside(
-            alloc,
-            integers::RoundedQuotient { how },
-            items,
-            scalar,
-            scalar_left,
-        ),
-        _ => compare_beside(alloc, op, items, scalar, scalar_left),
-    }
-}
-
-/// Arithmetic or a comparison of a column of doubles with a double; none for another operator.
-pub(crate) fn double_beside(
-    alloc: Global,
-    op: Binary,
-    items: &[Whole],
-    scalar: Whole,
-    scalar_left: bool,
-) -> Result<Option<Values>, OpFault>
-    ensures { AnswersIfMade (scalar_rows op scalar_left (double scalar) (numbered 0 (map (λ d. double d) items.now))) result }
-{
-    match op {
-        Binary::Add => values_beside(alloc, doubles::Sum, items, scalar, scalar_left),
-        Binary::Sub => values_beside(alloc, doubles::Difference, items, scalar, scalar_left),
-        Binary::Mul => values_beside(alloc, doubles::Product, items, scalar, scalar_left),
-        Binary::Div => values_beside(alloc, doubles::Quotient, items, scalar, scalar_left),
-        Binary::Modulo => values_beside(alloc, doubles::Remainder, items, scalar, scalar_left),
-        _ => compare_beside(alloc, op, items, scalar, scalar_left),
+    match a {
+        Values::I8(a) => compare_with(alloc, op, a.as_slice(), b),
+        Values::I16(a) => compare_with(alloc, op, a.as_slice(), b),
+        Values::I32(a) => compare_with(alloc, op, a.as_slice(), b),
+        Values::I64(a) => compare_with(alloc, op, a.as_slice(), b),
+        Values::U8(a) => compare_with(alloc, op, a.as_slice(), b),
+        Values::U16(a) => compare_with(alloc, op, a.as_slice(), b),
+        Values::U32(a) => compare_with(alloc, op, a.as_slice(), b),
+        Values::U64(a) => compare_with(alloc, op, a.as_slice(), b),
+        Values::Logical(a) => compare_with(alloc, op, a.as_slice(), b),
+        Values::Double(a) => compare_with(alloc, op, a.as_slice(), b),
+        Values::Text(_) => Ok(None),
     }
 }
 
@@ -200,18 +171,12 @@ pub(crate) fn column_pairs(
         (Values::U16(a), Values::U16(b)) => integer_pairs(alloc, op, a.as_slice(), b.as_slice()),
         (Values::U32(a), Values::U32(b)) => integer_pairs(alloc, op, a.as_slice(), b.as_slice()),
         (Values::U64(a), Values::U64(b)) => integer_pairs(alloc, op, a.as_slice(), b.as_slice()),
-        (Values::Logical(a), Values::Logical(b)) => compare_pairs(
-            alloc,
-            op,
-            a.as_slice(),
-            b.as_slice(),
-        ),
         (Values::Double(a), Values::Double(b)) => double_pairs(
             alloc,
             op,
             a.as_slice(),
             b.as_slice(),
         ),
-        _ => Ok(None),
+        _ => mixed_pairs(alloc, op, a, b),
     }
 }

@@ -1,41 +1,30 @@
-//! Comparisons of two values of a class.
+//! Comparisons of two values, of one class or of two.
 ghost use Rattle.std.specs.Prelude.{◌≡◌, Ok};
-ghost use Rattle.tall_value.specs.CellOperators.{above, below, binary_cell, equal};
+ghost use Rattle.tall_value.specs.CellOperators.{binary_cell, comparison};
 ghost use Rattle.tall_value.specs.declared.operators.Binary.TheVariants as binary;
 
 use std::cmp::Ordering;
-use tall_dense::{PairOperator, Stored};
-use tall_value::CellFault;
+use tall_dense::{Operand, PairOperator};
+use tall_value::{CellFault, compared, is_above, is_below, is_equal};
 
-fn is_equal(order: Option<Ordering>) -> bool
-    ensures { result ≡ equal order }
+/// How two values compare; none with a NaN.
+fn order<A: Operand, B: Operand>(a: A, b: B) -> Option<Ordering>
+    ensures { result ≡ comparison (A.shown a) (B.shown b) }
 {
-    matches!(order, Some(Ordering::Equal))
-}
-
-fn is_below(order: Option<Ordering>) -> bool
-    ensures { result ≡ below order }
-{
-    matches!(order, Some(Ordering::Less))
-}
-
-fn is_above(order: Option<Ordering>) -> bool
-    ensures { result ≡ above order }
-{
-    matches!(order, Some(Ordering::Greater))
+    compared(a.amount(), b.amount())
 }
 
 /// `==`
 #[derive(Clone, Copy)]
 pub(crate) struct Equal;
 
-impl<T: Stored> PairOperator<T> for Equal {
+impl<A: Operand, B: Operand> PairOperator<A, B> for Equal {
     type Out = bool;
 
     ghost gives = { λ _. binary_cell binary.Eq };
 
-    fn of(&self, a: T, b: T) -> Result<bool, CellFault> {
-        let order = a.order(b);
+    fn of(&self, a: A, b: B) -> Result<bool, CellFault> {
+        let order = order(a, b);
         Ok(is_equal(order))
     }
 }
@@ -44,13 +33,13 @@ impl<T: Stored> PairOperator<T> for Equal {
 #[derive(Clone, Copy)]
 pub(crate) struct Different;
 
-impl<T: Stored> PairOperator<T> for Different {
+impl<A: Operand, B: Operand> PairOperator<A, B> for Different {
     type Out = bool;
 
     ghost gives = { λ _. binary_cell binary.Ne };
 
-    fn of(&self, a: T, b: T) -> Result<bool, CellFault> {
-        let order = a.order(b);
+    fn of(&self, a: A, b: B) -> Result<bool, CellFault> {
+        let order = order(a, b);
         Ok(!is_equal(order))
     }
 }
@@ -59,13 +48,13 @@ impl<T: Stored> PairOperator<T> for Different {
 #[derive(Clone, Copy)]
 pub(crate) struct Less;
 
-impl<T: Stored> PairOperator<T> for Less {
+impl<A: Operand, B: Operand> PairOperator<A, B> for Less {
     type Out = bool;
 
     ghost gives = { λ _. binary_cell binary.Lt };
 
-    fn of(&self, a: T, b: T) -> Result<bool, CellFault> {
-        let order = a.order(b);
+    fn of(&self, a: A, b: B) -> Result<bool, CellFault> {
+        let order = order(a, b);
         Ok(is_below(order))
     }
 }
@@ -74,13 +63,13 @@ impl<T: Stored> PairOperator<T> for Less {
 #[derive(Clone, Copy)]
 pub(crate) struct AtMost;
 
-impl<T: Stored> PairOperator<T> for AtMost {
+impl<A: Operand, B: Operand> PairOperator<A, B> for AtMost {
     type Out = bool;
 
     ghost gives = { λ _. binary_cell binary.Le };
 
-    fn of(&self, a: T, b: T) -> Result<bool, CellFault> {
-        let order = a.order(b);
+    fn of(&self, a: A, b: B) -> Result<bool, CellFault> {
+        let order = order(a, b);
         Ok(is_below(order) || is_equal(order))
     }
 }
@@ -89,13 +78,13 @@ impl<T: Stored> PairOperator<T> for AtMost {
 #[derive(Clone, Copy)]
 pub(crate) struct Greater;
 
-impl<T: Stored> PairOperator<T> for Greater {
+impl<A: Operand, B: Operand> PairOperator<A, B> for Greater {
     type Out = bool;
 
     ghost gives = { λ _. binary_cell binary.Gt };
 
-    fn of(&self, a: T, b: T) -> Result<bool, CellFault> {
-        let order = a.order(b);
+    fn of(&self, a: A, b: B) -> Result<bool, CellFault> {
+        let order = order(a, b);
         Ok(is_above(order))
     }
 }
@@ -104,13 +93,13 @@ impl<T: Stored> PairOperator<T> for Greater {
 #[derive(Clone, Copy)]
 pub(crate) struct AtLeast;
 
-impl<T: Stored> PairOperator<T> for AtLeast {
+impl<A: Operand, B: Operand> PairOperator<A, B> for AtLeast {
     type Out = bool;
 
     ghost gives = { λ _. binary_cell binary.Ge };
 
-    fn of(&self, a: T, b: T) -> Result<bool, CellFault> {
-        let order = a.order(b);
+    fn of(&self, a: A, b: B) -> Result<bool, CellFault> {
+        let order = order(a, b);
         Ok(is_above(order) || is_equal(order))
     }
 }

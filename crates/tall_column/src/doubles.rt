@@ -1,37 +1,24 @@
-//! Arithmetic and signs of doubles.
+//! Arithmetic and signs of doubles, and what becomes a double.
 ghost use Rattle.std.specs.Prelude.{◌≡◌, Ok};
-ghost use Rattle.tall_value.specs.Cells.{double};
-ghost use Rattle.tall_value.specs.CellOperators.{binary_cell, double_cell, unary_cell};
+ghost use Rattle.tall_value.specs.CellOperators.{binary_cell, unary_cell};
 ghost use Rattle.tall_value.specs.declared.operators.Binary.TheVariants as binary;
 ghost use Rattle.tall_value.specs.declared.operators.Unary.TheVariants as unary;
-ghost use Rattle.tall_dense.specs.Rows.{shown_result};
 
-use tall_dense::{PairOperator, RowOperator};
-use tall_int::{Whole, WholeFault};
-use tall_value::CellFault;
-
-/// A double, or the fault of its row.
-fn double(computed: Result<Whole, WholeFault>) -> Result<Whole, CellFault>
-    ensures { shown_result (λ d. double d) result ≡ double_cell computed }
-{
-    match computed {
-        Ok(d) => Ok(d),
-        Err(WholeFault::Inexact) => Err(CellFault::Inexact),
-        Err(WholeFault::NotWhole) => Err(CellFault::NotWhole),
-    }
-}
+use tall_dense::{Operand, PairOperator, RowOperator};
+use tall_int::Whole;
+use tall_value::{CellFault, checked, to_double};
 
 /// `+`
 #[derive(Clone, Copy)]
 pub(crate) struct Sum;
 
-impl PairOperator<Whole> for Sum {
+impl PairOperator<Whole, Whole> for Sum {
     type Out = Whole;
 
     ghost gives = { λ _. binary_cell binary.Add };
 
     fn of(&self, a: Whole, b: Whole) -> Result<Whole, CellFault> {
-        double(a.add(b))
+        checked(a.add(b))
     }
 }
 
@@ -39,13 +26,13 @@ impl PairOperator<Whole> for Sum {
 #[derive(Clone, Copy)]
 pub(crate) struct Difference;
 
-impl PairOperator<Whole> for Difference {
+impl PairOperator<Whole, Whole> for Difference {
     type Out = Whole;
 
     ghost gives = { λ _. binary_cell binary.Sub };
 
     fn of(&self, a: Whole, b: Whole) -> Result<Whole, CellFault> {
-        double(a.sub(b))
+        checked(a.sub(b))
     }
 }
 
@@ -53,13 +40,13 @@ impl PairOperator<Whole> for Difference {
 #[derive(Clone, Copy)]
 pub(crate) struct Product;
 
-impl PairOperator<Whole> for Product {
+impl PairOperator<Whole, Whole> for Product {
     type Out = Whole;
 
     ghost gives = { λ _. binary_cell binary.Mul };
 
     fn of(&self, a: Whole, b: Whole) -> Result<Whole, CellFault> {
-        double(a.mul(b))
+        checked(a.mul(b))
     }
 }
 
@@ -67,13 +54,13 @@ impl PairOperator<Whole> for Product {
 #[derive(Clone, Copy)]
 pub(crate) struct Quotient;
 
-impl PairOperator<Whole> for Quotient {
+impl PairOperator<Whole, Whole> for Quotient {
     type Out = Whole;
 
     ghost gives = { λ _. binary_cell binary.Div };
 
     fn of(&self, a: Whole, b: Whole) -> Result<Whole, CellFault> {
-        double(a.div(b))
+        checked(a.div(b))
     }
 }
 
@@ -81,7 +68,7 @@ impl PairOperator<Whole> for Quotient {
 #[derive(Clone, Copy)]
 pub(crate) struct Remainder;
 
-impl PairOperator<Whole> for Remainder {
+impl PairOperator<Whole, Whole> for Remainder {
     type Out = Whole;
 
     ghost gives = { λ _. binary_cell binary.Modulo };
@@ -127,5 +114,18 @@ impl RowOperator<Whole> for Magnitude {
 
     fn of(&self, a: Whole) -> Result<Whole, CellFault> {
         Ok(a.abs())
+    }
+}
+
+/// `double(x)`
+pub(crate) struct ToDouble;
+
+impl<T: Operand> RowOperator<T> for ToDouble {
+    type Out = Whole;
+
+    ghost gives = { λ _. unary_cell unary.ToDouble };
+
+    fn of(&self, a: T) -> Result<Whole, CellFault> {
+        to_double(a.amount())
     }
 }

@@ -4,11 +4,13 @@
 //! goes to a loop over the values where there is one for the operator and the classes, and else from cell to cell.
 #![tactic(auto)]
 
+mod beside;
 mod binaries;
 mod column;
 mod comparisons;
 mod doubles;
 mod integers;
+mod logicals;
 mod rows;
 mod scalars;
 mod table;
@@ -17,7 +19,7 @@ mod unaries;
 pub use column::Column;
 pub use rows::{map_binary, map_scalar, map_unary};
 pub use table::{Table, Value};
-pub use tall_dense::{Integer, OpFault, Stored, Texts, Values};
+pub use tall_dense::{Integer, OpFault, Operand, Stored, Texts, Values};
 
 #[cfg(test)]
 mod row_tests;

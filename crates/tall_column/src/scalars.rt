@@ -1,16 +1,19 @@
-//! Operators on a column and a scalar, each in a loop over the values.
+//! Operators on a column and a scalar, by the scalar's class.
 ghost use Rattle.std.specs.Prelude.{◌≡◌, map, option_map};
+ghost use Rattle.tall_value.specs.declared.class.IntKind.{IntKind};
 ghost use Rattle.tall_value.specs.Cells.{seen, whole};
 ghost use Rattle.tall_value.specs.Columns.{numbered};
 ghost use Rattle.tall_value.specs.Elementwise.{scalar_rows};
 ghost use Rattle.tall_dense.specs.Dense.{shown};
+ghost use Rattle.tall_dense.specs.Ranges.{in_range};
 ghost use Rattle.tall_column.specs.Mapped.{AnswersIfMade};
-ghost use Rattle.tall_column.specs.Scalars.{counted, in_range};
+ghost use Rattle.tall_column.specs.Scalars.{number_beside};
 
-use crate::binaries::{compare_beside, double_beside, integer_beside};
+use crate::beside::{compare_with_scalar, double_beside, integer_beside, wide_beside};
 use std::alloc::Global;
-use tall_dense::{Integer, OpFault, Values};
-use tall_value::{Binary, Cell, Content};
+use std::marker::PhantomData;
+use tall_dense::{Beside, Integer, OpFault, Values, Wide};
+use tall_value::{Binary, Cell, Content, IntKind};
 
 /// The value of a number; none exactly outside the class.
 fn value_of<I: Integer>(n: i128) -> Option<I>
@@ -23,19 +26,60 @@ fn value_of<I: Integer>(n: i128) -> Option<I>
     }
 }
 
-/// The value of the class that a scalar counts as; none exactly for a number outside the class or of another integer
+/// The number that a scalar counts as beside an integer class, also outside it; none for a number of another integer
 /// class, for NaN and for a text.
-fn scalar_in<I: Integer>(scalar: &Cell<'_>) -> Option<I>
-    ensures { option_map I.number result ≡ counted I.KIND I.MIN I.MAX (seen scalar.now) }
+fn number_beside(kind: IntKind, scalar: &Cell<'_>) -> Option<i128>
+    ensures { result ≡ number_beside kind (seen scalar.now) }
 {
     match scalar.content() {
-        Content::Whole(kind, n) if kind.is_same(I::KIND) => value_of(n),
-        Content::Logical(b) => value_of(if b { 1 } else { 0 }),
+        Content::Whole(other, n) if other.is_same(kind) => Some(n),
+        Content::Logical(b) => Some(if b { 1 } else { 0 }),
         Content::Double(d) => match d.get() {
-            Some(n) => value_of(n as i128),
+            Some(n) => Some(n as i128),
             None => None,
         },
         _ => None,
+    }
+}
+
+/// The operator on a column of an integer class and a number outside the class; none where no loop does it.
+fn integer_with_outside<I: Integer>(
+    alloc: Global,
+    op: Binary,
+    items: &[I],
+    n: i128,
+    scalar_left: bool,
+) -> Result<Option<Values>, OpFault>
+    ensures { AnswersIfMade (scalar_rows op scalar_left (whole I.KIND n) (numbered 0 (map (λ x. whole I.KIND (I.number x)) items.now))) result }
+{
+    match I::Wide::of(n) {
+        Some(number) => wide_beside(
+            alloc,
+            op,
+            items,
+            Beside {
+                number,
+                class: PhantomData,
+            },
+            scalar_left,
+        ),
+        None => Ok(None),
+    }
+}
+
+/// The operator on a column of an integer class and a number; none where no loop does it.
+fn integer_with_number<I: Integer>(
+    alloc: Global,
+    op: Binary,
+    items: &[I],
+    n: i128,
+    scalar_left: bool,
+) -> Result<Option<Values>, OpFault>
+    ensures { AnswersIfMade (scalar_rows op scalar_left (whole I.KIND n) (numbered 0 (map (λ x. whole I.KIND (I.number x)) items.now))) result }
+{
+    match value_of(n) {
+        Some(value) => integer_beside(alloc, op, items, value, scalar_left),
+        None => integer_with_outside(alloc, op, items, n, scalar_left),
     }
 }
 
@@ -49,8 +93,8 @@ fn integer_with_scalar<I: Integer>(
 ) -> Result<Option<Values>, OpFault>
     ensures { AnswersIfMade (scalar_rows op scalar_left (seen scalar.now) (numbered 0 (map (λ x. whole I.KIND (I.number x)) items.now))) result }
 {
-    match scalar_in(scalar) {
-        Some(value) => integer_beside(alloc, op, items, value, scalar_left),
+    match number_beside(I::KIND, scalar) {
+        Some(n) => integer_with_number(alloc, op, items, n, scalar_left),
         None => Ok(None),
     }
 }
@@ -74,13 +118,10 @@ pub(crate) fn column_beside(
         Values::U16(a) => integer_with_scalar(alloc, op, a.as_slice(), scalar, scalar_left),
         Values::U32(a) => integer_with_scalar(alloc, op, a.as_slice(), scalar, scalar_left),
         Values::U64(a) => integer_with_scalar(alloc, op, a.as_slice(), scalar, scalar_left),
-        Values::Logical(a) => match *scalar {
-            Cell::Logical(b) => compare_beside(alloc, op, a.as_slice(), b, scalar_left),
-            _ => Ok(None),
-        },
+        Values::Logical(a) => compare_with_scalar(alloc, op, a.as_slice(), scalar, scalar_left),
         Values::Double(a) => match *scalar {
             Cell::Double(d) => double_beside(alloc, op, a.as_slice(), d, scalar_left),
-            _ => Ok(None),
+            _ => compare_with_scalar(alloc, op, a.as_slice(), scalar, scalar_left),
         },
         Values::Text(_) => Ok(None),
     }

@@ -8,10 +8,11 @@ ghost use Rattle.tall_dense.specs.Dense.{shown};
 ghost use Rattle.tall_column.specs.Mapped.{AnswersIfMade};
 
 use crate::binaries::made;
+use crate::logicals::{IsNan, Not, ToLogical};
 use crate::{doubles, integers};
 use std::alloc::Global;
 use std::marker::PhantomData;
-use tall_dense::{Integer, OpFault, RowOperator, Stored, Values, each};
+use tall_dense::{Integer, OpFault, Operand, RowOperator, Stored, Values, each};
 use tall_int::{Whole, clamp};
 use tall_value::{CellFault, Unary};
 
@@ -20,7 +21,7 @@ struct To<I> {
     class: PhantomData<I>,
 }
 
-impl<I: Integer, T: Stored> RowOperator<T> for To<I> {
+impl<I: Integer, T: Operand> RowOperator<T> for To<I> {
     type Out = I;
 
     ghost gives = { λ _. to_integer I.KIND };
@@ -51,7 +52,7 @@ fn conversion<I: Integer, T: Stored>(alloc: Global, items: &[T]) -> Result<Optio
     each_value(alloc, &To::<I> { class: PhantomData }, items)
 }
 
-/// The conversion to an integer class; none for another operator.
+/// The conversion to another class, `~` and `isnan`; none for another operator.
 fn converted<T: Stored>(alloc: Global, op: Unary, items: &[T]) -> Result<Option<Values>, OpFault>
     ensures { AnswersIfMade (unary_rows op (numbered 0 (map T.shown items.now))) result }
 {
@@ -64,11 +65,15 @@ fn converted<T: Stored>(alloc: Global, op: Unary, items: &[T]) -> Result<Option<
         Unary::ToUint16 => conversion::<u16, T>(alloc, items),
         Unary::ToUint32 => conversion::<u32, T>(alloc, items),
         Unary::ToUint64 => conversion::<u64, T>(alloc, items),
+        Unary::ToDouble => each_value(alloc, &doubles::ToDouble, items),
+        Unary::ToLogical => each_value(alloc, &ToLogical, items),
+        Unary::Not => each_value(alloc, &Not, items),
+        Unary::IsNan => each_value(alloc, &IsNan, items),
         _ => Ok(None),
     }
 }
 
-/// The sign operators and conversions of a column of an integer class; none for another operator.
+/// The operators of a column of an integer class.
 fn each_integer<I: Integer>(
     alloc: Global,
     op: Unary,
@@ -84,7 +89,7 @@ fn each_integer<I: Integer>(
     }
 }
 
-/// The sign operators and conversions of a column of doubles; none for another operator.
+/// The operators of a column of doubles.
 fn each_double(alloc: Global, op: Unary, items: &[Whole]) -> Result<Option<Values>, OpFault>
     ensures { AnswersIfMade (unary_rows op (numbered 0 (map (λ d. double d) items.now))) result }
 {

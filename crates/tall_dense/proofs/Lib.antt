@@ -1,4 +1,4 @@
 pub mod Lists
-pub mod Ranges
+pub mod Narrowed
 pub mod RowLemmas
 pub mod TextLemmas

@@ -1,8 +1,8 @@
 -- Lists and their rows.
 use Rattle.std.specs.Prelude.{Some, if◌then◌else◌, option_map, slice_get}
 use Rattle.std.specs.List.{slice_range}
-use Rattle.std.proofs.Common.{ℕ, ◌≡◌, ◌<◌, ◌≤◌, ◌+◌, ◌-◌, List, [], ◌∷◌, ◌++◌, length, map, take, drop, get_or, Bool, true, false, sym, ◌∙◌, ap, arith, inl, inr}
-use Rattle.std.proofs.lemmas.List.{take-map, drop-map, drop_more, append_assoc, length-drop, get_or-drop, take_more, take_all, map_push}
+use Rattle.std.proofs.Common.{ℕ, ◌≡◌, ◌<◌, ◌≤◌, ◌+◌, ◌-◌, List, [], ◌∷◌, ◌++◌, length, map, take, drop, get_or, set, Bool, true, false, sym, ◌∙◌, ap, arith, inl, inr}
+use Rattle.std.proofs.lemmas.List.{take-map, drop-map, drop_more, append_assoc, length-drop, get_or-drop, take_more, take_all, map_push, take-set, take_more_set}
 use Rattle.std.proofs.lemmas.Option.{slice_get-map, slice_get_within, get_or_from_slice_get, slice_get_cases}
 use Rattle.tall_value.specs.Cells.{Seen, logical}
 use Rattle.tall_value.specs.Filters.{kept}
@@ -68,15 +68,6 @@ get_here xs i x l is = elim (slice_get_cases xs i).1 [ inl h ↦ h.2 ∙ ap Some
 pub some_at : {X : Type 0} (xs : List X) (i : ℕ) → i < length xs → (x : X) × (drop i xs ≡ x ∷ drop (i + 1) xs)
 some_at xs i l = elim (slice_get_cases xs i).1 [ inl h ↦ (h.0, drop_get xs i h.0 h.2) | inr h ↦ absurd (omega (arith, h.0, l)) ]
 
-pub kept_next : {X : Type 0} (f : X → Seen) (xs : List X) (mask : List Bool) (row : ℕ) (x : X) (b : Bool) (out next all : List Seen)
-    → next ≡ (if b then out ++ f x ∷ [] else out) → drop row xs ≡ x ∷ drop (row + 1) xs → row < length mask → get_or mask row false ≡ b
-    → out ++ kept (map f (drop row xs)) (map (λ m. logical m) (drop row mask)) ≡ all
-    → next ++ kept (map f (drop (row + 1) xs)) (map (λ m. logical m) (drop (row + 1) mask)) ≡ all
-kept_next f xs mask row x true out next all n e l t h =
-    ap (λ v. v ++ kept (map f (drop (row + 1) xs)) (map (λ m. logical m) (drop (row + 1) mask))) n ∙ kept_true f xs mask row x out all e l t h
-kept_next f xs mask row x false out next all n e l t h =
-    ap (λ v. v ++ kept (map f (drop (row + 1) xs)) (map (λ m. logical m) (drop (row + 1) mask))) n ∙ kept_false f xs mask row x out all e l t h
-
 pub kept_pushed : {X : Type 0} (f : X → Seen) (xs : List X) (mask : List Bool) (row : ℕ) (x : X) (out next : List X) (all : List Seen)
     → next ≡ out ++ x ∷ [] → drop row xs ≡ x ∷ drop (row + 1) xs → row < length mask → get_or mask row false ≡ true
     → map f out ++ kept (map f (drop row xs)) (map (λ m. logical m) (drop row mask)) ≡ all
@@ -93,3 +84,17 @@ kept_skipped f xs mask row out next all n w l t h =
     let here = some_at xs row w in
     ap (λ v. map f v ++ kept (map f (drop (row + 1) xs)) (map (λ m. logical m) (drop (row + 1) mask))) n
     ∙ kept_false f xs mask row here.0 (map f out) all here.1 l t h
+
+-- the same where the rows that are kept stand at the front of a list of places
+
+pub gathered : {X : Type 0} (f : X → Seen) (xs : List X) (mask : List Bool) (row : ℕ) (x : X) (b : Bool) (slots : List X) (count next : ℕ) (all : List Seen)
+    → next ≡ count + (if b then 1 else 0) → count < length slots → x ≡ get_or xs row x → row < length xs → row < length mask → get_or mask row false ≡ b
+    → map f (take count slots) ++ kept (map f (drop row xs)) (map (λ m. logical m) (drop row mask)) ≡ all
+    → map f (take next (set slots count x)) ++ kept (map f (drop (row + 1) xs)) (map (λ m. logical m) (drop (row + 1) mask)) ≡ all
+gathered f xs mask row x true slots count next all n c is w l t h =
+    kept_pushed f xs mask row x (take count slots) (take next (set slots count x)) all
+    (ap (λ k. take k (set slots count x)) n ∙ take_more_set slots count x c) (drop_get xs row x (get_here xs row x w is)) l t h
+gathered f xs mask row x false slots count next all n c is w l t h =
+    let same : next ≡ count = omega (arith, n) in
+    kept_skipped f xs mask row (take count slots) (take next (set slots count x)) all
+    (ap (λ k. take k (set slots count x)) same ∙ take-set slots count x) w l t h

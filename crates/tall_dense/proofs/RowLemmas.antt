@@ -7,7 +7,7 @@ use Rattle.tall_value.specs.declared.faults.CellFault.{CellFault}
 use Rattle.tall_value.specs.Cells.{Seen}
 use Rattle.tall_value.specs.Columns.{numbered}
 use Rattle.tall_value.specs.Elementwise.{in_front, at_row, each_row, each_pair}
-use Rattle.tall_dense.specs.Rows.{shown_result}
+use Rattle.tall_value.specs.Results.{shown_result}
 use Rattle.tall_dense.proofs.Lists.{drop_get}
 
 abbrev pub Outcome : Type 0

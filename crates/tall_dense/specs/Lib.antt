@@ -1,4 +1,5 @@
 pub mod Columns
 pub mod Texts
 pub mod Dense
+pub mod Ranges
 pub mod Rows

@@ -1,5 +1,5 @@
 -- What an operator over rows answers: all cells, or the first row without one.
-use Rattle.std.specs.Prelude.{ℕ, ◌≡◌, Bool, if◌then◌else◌, List, Result, Ok, Err}
+use Rattle.std.specs.Prelude.{ℕ, ◌≡◌, List, Result, Ok, Err}
 use Rattle.tall_value.specs.declared.faults.CellFault.{CellFault}
 use Rattle.tall_value.specs.Cells.{Seen}
 use Rattle.tall_value.specs.Columns.{numbered}
@@ -12,12 +12,3 @@ abbrev pub Answers : {A : Type 0} → Result (List (ℕ × Seen)) (ℕ × CellFa
 Answers rows cells (Ok a) = rows ≡ Ok (numbered 0 (cells a))
 Answers rows cells (Err (At row fault)) = rows ≡ Err (row, fault)
 Answers rows cells (Err Memory) = Unit {0}
-
--- a result as a cell
-abbrev pub shown_result : {A : Type 0} → (A → Seen) → Result A CellFault → Result Seen CellFault
-shown_result shown (Ok a) = Ok (shown a)
-shown_result shown (Err fault) = Err fault
-
--- an operator of a scalar and a cell
-abbrev pub with_scalar : (Seen → Seen → Result Seen CellFault) → Bool → Seen → Seen → Result Seen CellFault
-with_scalar op scalar_left scalar c = if scalar_left then op scalar c else op c scalar

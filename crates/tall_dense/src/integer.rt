@@ -1,5 +1,5 @@
 //! Integer classes in machine integers wide enough for their sums, differences and products.
-ghost use Rattle.std.specs.Prelude.{◌≡◌, ◌+ℤ◌, ◌-ℤ◌, ◌*ℤ◌, ◌≤ℤ◌, ℤ, map, negsuc, pos, refl};
+ghost use Rattle.std.specs.Prelude.{◌≡◌, ◌+ℤ◌, ◌-ℤ◌, ◌*ℤ◌, ◌≤ℤ◌, ℤ, map, negsuc, option_map, pos, refl};
 ghost use Rattle.std.proofs.Common.{rules};
 ghost use Rattle.tall_int.specs.Numbers.{nearest};
 ghost use Rattle.tall_value.specs.declared.class.Class.TheVariants as class;
@@ -9,18 +9,27 @@ ghost use Rattle.tall_value.specs.declared.class.Kind.TheVariants.{Integer as in
 ghost use Rattle.tall_value.specs.Cells.{whole};
 ghost use Rattle.tall_value.specs.Classes.{class_of, greatest, least};
 ghost use Rattle.tall_dense.specs.Dense.{shown};
+ghost use Rattle.tall_dense.specs.Ranges.{in_range};
 
 use crate::values::Values;
 use tall_int::IntClass;
 use tall_value::IntKind;
 
-/// A signed machine integer, whose arithmetic goes to the nearer end where a result does not fit.
+/// A machine integer, whose arithmetic goes to the nearer end where a result does not fit.
 pub trait Wide: Copy {
     ghost low: { ℤ };
 
     ghost high: { ℤ };
 
     ghost value: { Self → ℤ };
+
+    /// The machine integer of a number; none exactly where the number does not fit.
+    fn of(n: i128) -> Option<Self>
+        ensures { option_map value result ≡ in_range low high n };
+
+    /// The number.
+    fn amount(self) -> i128
+        ensures { result ≡ value self };
 
     fn plus(self, other: Self) -> Self
         ensures { value result ≡ nearest low high (value self +ℤ value other) };
@@ -38,6 +47,18 @@ impl Wide for i32 {
     ghost high = { pos 2147483647 };
 
     ghost value = { λ n. n };
+
+    fn of(n: i128) -> Option<i32> {
+        if i32::MIN as i128 <= n && n <= i32::MAX as i128 {
+            Some(n as i32)
+        } else {
+            None
+        }
+    }
+
+    fn amount(self) -> i128 {
+        self as i128
+    }
 
     fn plus(self, other: i32) -> i32 {
         self.saturating_add(other)
@@ -59,6 +80,18 @@ impl Wide for i64 {
 
     ghost value = { λ n. n };
 
+    fn of(n: i128) -> Option<i64> {
+        if i64::MIN as i128 <= n && n <= i64::MAX as i128 {
+            Some(n as i64)
+        } else {
+            None
+        }
+    }
+
+    fn amount(self) -> i128 {
+        self as i128
+    }
+
     fn plus(self, other: i64) -> i64 {
         self.saturating_add(other)
     }
@@ -72,29 +105,41 @@ impl Wide for i64 {
     }
 }
 
-impl Wide for i128 {
-    ghost low = { negsuc 170141183460469231731687303715884105727 };
+impl Wide for u64 {
+    ghost low = { pos 0 };
 
-    ghost high = { pos 170141183460469231731687303715884105727 };
+    ghost high = { pos 18446744073709551615 };
 
-    ghost value = { λ n. n };
+    ghost value = { λ n. pos n };
 
-    fn plus(self, other: i128) -> i128 {
+    fn of(n: i128) -> Option<u64> {
+        if u64::MIN as i128 <= n && n <= u64::MAX as i128 {
+            Some(n as u64)
+        } else {
+            None
+        }
+    }
+
+    fn amount(self) -> i128 {
+        self as i128
+    }
+
+    fn plus(self, other: u64) -> u64 {
         self.saturating_add(other)
     }
 
-    fn minus(self, other: i128) -> i128 {
+    fn minus(self, other: u64) -> u64 {
         self.saturating_sub(other)
     }
 
-    fn times(self, other: i128) -> i128 {
+    fn times(self, other: u64) -> u64 {
         self.saturating_mul(other)
     }
 }
 
 /// An integer class whose values a column keeps as they are.
 pub trait Integer: IntClass {
-    /// Sums, differences and products of two values fit, or go to an end far from the class.
+    /// Sums, differences and products of two values fit, or go to an end that is an end of the class or beyond it.
     type Wide: Wide;
 
     /// The class among the eight.
@@ -206,18 +251,18 @@ impl Integer for i32 {
 }
 
 impl Integer for i64 {
-    type Wide = i128;
+    type Wide = i64;
 
     const KIND: IntKind = IntKind::Int64;
 
     ghost KIND = { Int64 };
 
-    fn widen(self) -> i128 {
-        self as i128
+    fn widen(self) -> i64 {
+        self
     }
 
-    fn narrow(n: i128) -> i64 {
-        n.clamp(i64::MIN as i128, i64::MAX as i128) as i64
+    fn narrow(n: i64) -> i64 {
+        n
     }
 
     fn column(items: Vec<i64>) -> Values
@@ -318,18 +363,18 @@ impl Integer for u32 {
 }
 
 impl Integer for u64 {
-    type Wide = i128;
+    type Wide = u64;
 
     const KIND: IntKind = IntKind::Uint64;
 
     ghost KIND = { Uint64 };
 
-    fn widen(self) -> i128 {
-        self as i128
+    fn widen(self) -> u64 {
+        self
     }
 
-    fn narrow(n: i128) -> u64 {
-        n.clamp(u64::MIN as i128, u64::MAX as i128) as u64
+    fn narrow(n: u64) -> u64 {
+        n
     }
 
     fn column(items: Vec<u64>) -> Values
@@ -345,23 +390,23 @@ impl Integer for u64 {
     ghost within = { Prim.search rules };
 }
 
-/// The sum of two values, saturated.
-pub fn sum<I: Integer>(a: I, b: I) -> I
-    ensures { I.number result ≡ nearest I.MIN I.MAX (I.number a +ℤ I.number b) }
+/// The sum of two numbers, saturated.
+pub fn sum<I: Integer>(a: I::Wide, b: I::Wide) -> I
+    ensures { I.number result ≡ nearest I.MIN I.MAX (I.Wide.value a +ℤ I.Wide.value b) }
 {
-    I::narrow(a.widen().plus(b.widen()))
+    I::narrow(a.plus(b))
 }
 
-/// The difference of two values, saturated.
-pub fn difference<I: Integer>(a: I, b: I) -> I
-    ensures { I.number result ≡ nearest I.MIN I.MAX (I.number a -ℤ I.number b) }
+/// The difference of two numbers, saturated.
+pub fn difference<I: Integer>(a: I::Wide, b: I::Wide) -> I
+    ensures { I.number result ≡ nearest I.MIN I.MAX (I.Wide.value a -ℤ I.Wide.value b) }
 {
-    I::narrow(a.widen().minus(b.widen()))
+    I::narrow(a.minus(b))
 }
 
-/// The product of two values, saturated.
-pub fn product<I: Integer>(a: I, b: I) -> I
-    ensures { I.number result ≡ nearest I.MIN I.MAX (I.number a *ℤ I.number b) }
+/// The product of two numbers, saturated.
+pub fn product<I: Integer>(a: I::Wide, b: I::Wide) -> I
+    ensures { I.number result ≡ nearest I.MIN I.MAX (I.Wide.value a *ℤ I.Wide.value b) }
 {
-    I::narrow(a.widen().times(b.widen()))
+    I::narrow(a.times(b))
 }

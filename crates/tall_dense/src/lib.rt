@@ -8,13 +8,15 @@
 mod faults;
 mod integer;
 mod loops;
+mod operand;
 mod stored;
 mod texts;
 mod values;
 
 pub use faults::OpFault;
-pub use integer::{Integer, difference, product, sum};
-pub use loops::{PairOperator, RowOperator, beside, each, pairs};
+pub use integer::{Integer, Wide, difference, product, sum};
+pub use loops::{PairOperator, RowOperator, before, behind, each, pairs};
+pub use operand::{Beside, Operand};
 pub use stored::Stored;
 pub use texts::Texts;
 pub use values::Values;

@@ -4,15 +4,17 @@ ghost use Rattle.tall_value.specs.declared.faults.CellFault.{CellFault};
 ghost use Rattle.tall_value.specs.Cells.{Seen};
 ghost use Rattle.tall_value.specs.Columns.{numbered};
 ghost use Rattle.tall_value.specs.Elementwise.{each_pair, each_row};
-ghost use Rattle.tall_dense.specs.Rows.{Answers, shown_result, with_scalar};
+ghost use Rattle.tall_value.specs.Results.{shown_result};
+ghost use Rattle.tall_dense.specs.Rows.{Answers};
 
 use crate::faults::OpFault;
+use crate::operand::Operand;
 use crate::stored::Stored;
 use std::alloc::Global;
 use tall_value::CellFault;
 
-/// An operator of one operand of a class.
-pub trait RowOperator<T: Stored> {
+/// An operator of one operand.
+pub trait RowOperator<T: Operand> {
     type Out: Stored;
 
     ghost gives: { Self → Seen → Result Seen CellFault };
@@ -21,14 +23,14 @@ pub trait RowOperator<T: Stored> {
         ensures { shown_result Self.Out.shown result ≡ gives self.now (T.shown a) };
 }
 
-/// An operator of two operands of a class.
-pub trait PairOperator<T: Stored>: Copy {
+/// An operator of two operands.
+pub trait PairOperator<A: Operand, B: Operand>: Copy {
     type Out: Stored;
 
     ghost gives: { Self → Seen → Seen → Result Seen CellFault };
 
-    fn of(&self, a: T, b: T) -> Result<Self::Out, CellFault>
-        ensures { shown_result Self.Out.shown result ≡ gives self.now (T.shown a) (T.shown b) };
+    fn of(&self, a: A, b: B) -> Result<Self::Out, CellFault>
+        ensures { shown_result Self.Out.shown result ≡ gives self.now (A.shown a) (B.shown b) };
 }
 
 /// The operator at each row.
@@ -50,14 +52,14 @@ pub fn each<T: Stored, F: RowOperator<T>>(
 }
 
 /// The operator at each row of two slices of one length.
-pub fn pairs<T: Stored, F: PairOperator<T>>(
+pub fn pairs<A: Stored, B: Stored, F: PairOperator<A, B>>(
     alloc: Global,
     operator: &F,
-    a: &[T],
-    b: &[T],
+    a: &[A],
+    b: &[B],
 ) -> Result<Vec<F::Out>, OpFault>
-    requires { length (map T.shown b.now) ≡ length (map T.shown a.now) }
-    ensures { Answers (each_pair (F.gives operator.now) (numbered 0 (map T.shown a.now)) (numbered 0 (map T.shown b.now))) (λ v. map F.Out.shown v.items) result }
+    requires { length (map B.shown b.now) ≡ length (map A.shown a.now) }
+    ensures { Answers (each_pair (F.gives operator.now) (numbered 0 (map A.shown a.now)) (numbered 0 (map B.shown b.now))) (λ v. map F.Out.shown v.items) result }
 {
     let mut out = Vec::with_capacity(alloc, a.len())?;
     for row in 0..a.len() {
@@ -71,15 +73,15 @@ pub fn pairs<T: Stored, F: PairOperator<T>>(
 
 /// The operator with a scalar as its left operand.
 #[derive(Clone, Copy)]
-struct Before<T, O> {
-    scalar: T,
+struct ScalarLeft<S, O> {
+    scalar: S,
     operator: O,
 }
 
-impl<T: Stored, O: PairOperator<T>> RowOperator<T> for Before<T, O> {
+impl<S: Operand, T: Operand, O: PairOperator<S, T>> RowOperator<T> for ScalarLeft<S, O> {
     type Out = O::Out;
 
-    ghost gives = { λ s. O.gives s.operator (T.shown s.scalar) };
+    ghost gives = { λ s. O.gives s.operator (S.shown s.scalar) };
 
     fn of(&self, a: T) -> Result<O::Out, CellFault> {
         self.operator.of(self.scalar, a)
@@ -88,34 +90,41 @@ impl<T: Stored, O: PairOperator<T>> RowOperator<T> for Before<T, O> {
 
 /// The operator with a scalar as its right operand.
 #[derive(Clone, Copy)]
-struct Behind<T, O> {
-    scalar: T,
+struct ScalarRight<S, O> {
+    scalar: S,
     operator: O,
 }
 
-impl<T: Stored, O: PairOperator<T>> RowOperator<T> for Behind<T, O> {
+impl<S: Operand, T: Operand, O: PairOperator<T, S>> RowOperator<T> for ScalarRight<S, O> {
     type Out = O::Out;
 
-    ghost gives = { λ s c. O.gives s.operator c (T.shown s.scalar) };
+    ghost gives = { λ s c. O.gives s.operator c (S.shown s.scalar) };
 
     fn of(&self, a: T) -> Result<O::Out, CellFault> {
         self.operator.of(a, self.scalar)
     }
 }
 
-/// The operator at each row and a scalar, which is the left operand where the flag is set.
-pub fn beside<T: Stored, O: PairOperator<T>>(
+/// The operator at a scalar and each row.
+pub fn before<S: Operand, T: Stored, O: PairOperator<S, T>>(
+    alloc: Global,
+    operator: O,
+    scalar: S,
+    items: &[T],
+) -> Result<Vec<O::Out>, OpFault>
+    ensures { Answers (each_row (λ c. O.gives operator (S.shown scalar) c) (numbered 0 (map T.shown items.now))) (λ v. map O.Out.shown v.items) result }
+{
+    each(alloc, &ScalarLeft { scalar, operator }, items)
+}
+
+/// The operator at each row and a scalar.
+pub fn behind<T: Stored, S: Operand, O: PairOperator<T, S>>(
     alloc: Global,
     operator: O,
     items: &[T],
-    scalar: T,
-    scalar_left: bool,
+    scalar: S,
 ) -> Result<Vec<O::Out>, OpFault>
-    ensures { Answers (each_row (with_scalar (O.gives operator) scalar_left (T.shown scalar)) (numbered 0 (map T.shown items.now))) (λ v. map O.Out.shown v.items) result }
+    ensures { Answers (each_row (λ c. O.gives operator c (S.shown scalar)) (numbered 0 (map T.shown items.now))) (λ v. map O.Out.shown v.items) result }
 {
-    if scalar_left {
-        each(alloc, &Before { scalar, operator }, items)
-    } else {
-        each(alloc, &Behind { scalar, operator }, items)
-    }
+    each(alloc, &ScalarRight { scalar, operator }, items)
 }

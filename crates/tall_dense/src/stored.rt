@@ -1,52 +1,31 @@
 //! Values that a column keeps in a vector, and what is done with such a vector.
-ghost use Rattle.std.specs.Prelude.{◌≡◌, ◌<◌, ◌≤◌, ◌++◌, [], ◌∷◌, IfOk, MatchResult, Some, if◌then◌else◌, length, map, slice_get};
+ghost use Rattle.std.specs.Prelude.{◌≡◌, ◌<◌, ◌≤◌, ◌++◌, [], ◌∷◌, IfOk, MatchResult, Some, if◌then◌else◌, length, map, slice_get, take};
 ghost use Rattle.std.specs.List.{slice_range};
 ghost use Rattle.tall_value.specs.declared.class.Class.{Class};
 ghost use Rattle.tall_value.specs.declared.class.Class.TheVariants as class;
 ghost use Rattle.tall_value.specs.declared.class.Kind.TheVariants.{Integer as integer_kind};
-ghost use Rattle.tall_value.specs.Cells.{Seen, amount, double, logical, whole};
-ghost use Rattle.tall_value.specs.CellOperators.{comparison};
+ghost use Rattle.tall_value.specs.Cells.{double, logical, whole};
 ghost use Rattle.tall_value.specs.Classes.{class_of};
 ghost use Rattle.tall_value.specs.Filters.{kept};
 ghost use Rattle.tall_dense.specs.Dense.{shown as values_shown};
 
 use crate::integer::Integer;
+use crate::operand::Operand;
 use crate::values::Values;
 use std::alloc::{AllocError, Global};
-use std::cmp::Ordering;
 use tall_int::Whole;
 
 /// A value of a class that a column keeps as it is.
-pub trait Stored: Copy {
+pub trait Stored: Operand {
     ghost class: { Class };
 
-    ghost shown: { Self → Seen };
-
-    /// The number that the value stands for, a logical for 0 or 1; none for NaN.
-    fn amount(self) -> Option<i128>
-        ensures { result ≡ amount (shown self) };
-
-    /// How two values compare; none with a NaN.
-    fn order(self, other: Self) -> Option<Ordering>
-        ensures { result ≡ comparison (shown self) (shown other) };
-
-    /// The values of a column.
+    /// The values of a column, which are not copied.
     fn values(items: Vec<Self>) -> Values
-        ensures { values_shown result ≡ record { class = class; cells = map shown items.items } };
+        ensures { values_shown result ≡ record { class = class; cells = map Self.shown items.items } };
 }
 
 impl<I: Integer> Stored for I {
     ghost class = { class_of (integer_kind I.KIND) };
-
-    ghost shown = { λ x. whole I.KIND (I.number x) };
-
-    fn amount(self) -> Option<i128> {
-        Some(self.wide())
-    }
-
-    fn order(self, other: I) -> Option<Ordering> {
-        Some(self.wide().cmp(&other.wide()))
-    }
 
     fn values(items: Vec<I>) -> Values
         ensures { values_shown result ≡ record { class = class_of (integer_kind I.KIND); cells = map (λ x. whole I.KIND (I.number x)) items.items } }
@@ -58,16 +37,6 @@ impl<I: Integer> Stored for I {
 impl Stored for bool {
     ghost class = { class.Logical };
 
-    ghost shown = { λ b. logical b };
-
-    fn amount(self) -> Option<i128> {
-        Some(if self { 1 } else { 0 })
-    }
-
-    fn order(self, other: bool) -> Option<Ordering> {
-        Some(self.cmp(&other))
-    }
-
     fn values(items: Vec<bool>) -> Values
         ensures { values_shown result ≡ record { class = class.Logical; cells = map (λ b. logical b) items.items } }
     {
@@ -77,22 +46,6 @@ impl Stored for bool {
 
 impl Stored for Whole {
     ghost class = { class.Double };
-
-    ghost shown = { λ d. double d };
-
-    fn amount(self) -> Option<i128> {
-        match self.get() {
-            Some(n) => Some(n as i128),
-            None => None,
-        }
-    }
-
-    fn order(self, other: Whole) -> Option<Ordering> {
-        match (self.get(), other.get()) {
-            (Some(a), Some(b)) => Some(a.cmp(&b)),
-            _ => None,
-        }
-    }
 
     fn values(items: Vec<Whole>) -> Values
         ensures { values_shown result ≡ record { class = class.Double; cells = map (λ d. double d) items.items } }
@@ -138,14 +91,26 @@ pub(crate) fn part<T: Stored>(
     Vec::from_slice(alloc, &items[from..to])
 }
 
-/// Adds a value that is marked at the end.
-fn add_if<T: Stored>(items: &mut Vec<T>, value: T, marked: bool) -> Result<(), AllocError>
-    ensures { IfOk result (λ _. map T.shown items.new.items ≡ (if marked then map T.shown items.old.items ++ T.shown value ∷ [] else map T.shown items.old.items)) }
+/// One for a value that is marked.
+fn one_if(marked: bool) -> usize
+    ensures value { result ≡ (if marked then 1 else 0) }
+    ensures small { result ≤ 1 }
 {
-    if marked {
-        add(items, value)?;
+    if marked { 1 } else { 0 }
+}
+
+/// Moves the values that a mask keeps to the front of a copy, without a branch, and tells how many they are.
+fn gather<T: Stored>(slots: &mut [T], items: &[T], mask: &[bool]) -> usize
+    requires copied { length slots.old ≡ length items.now }
+    requires same_length { length mask.now ≡ length items.now }
+    ensures { map T.shown (take result slots.new) ≡ kept (map T.shown items.now) (map (λ b. logical b) mask.now) }
+{
+    let mut count = 0;
+    for row in 0..items.len() {
+        slots[count] = items[row];
+        count += one_if(mask[row]);
     }
-    Ok(())
+    count
 }
 
 /// The values that a mask keeps.
@@ -157,9 +122,8 @@ pub(crate) fn kept<T: Stored>(
     requires { length (map T.shown items.now) ≡ length (map (λ b. logical b) mask.now) }
     ensures { IfOk result (λ v. map T.shown v.items ≡ kept (map T.shown items.now) (map (λ b. logical b) mask.now)) }
 {
-    let mut out = Vec::new(alloc);
-    for row in 0..items.len() {
-        add_if(&mut out, items[row], mask[row])?;
-    }
+    let mut out = Vec::from_slice(alloc, items)?;
+    let count = gather(out.as_mut_slice(), items, mask);
+    out.truncate(count);
     Ok(out)
 }

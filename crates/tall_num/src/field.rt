@@ -78,32 +78,19 @@ pub fn to_class<I: IntClass>(field: Field<'_>) -> I
     }
 }
 
-/// The number as a double, if its magnitude is at most 2^53.
-fn exact_number(n: i64) -> Result<Whole, WholeFault>
-    ensures { result ≡ exact n }
-{
-    match Whole::new(n) {
-        Some(whole) => Ok(whole),
-        None => Err(WholeFault::Inexact),
-    }
-}
-
-/// The same of a number given by its sign and its magnitude.
+/// The double of a sign and a magnitude.
 fn exact_size(negative: bool, size: u128) -> Result<Whole, WholeFault>
+    requires { size ≤ LIMIT }
     ensures { result ≡ exact (with_sign negative size) }
 {
-    if size > i64::MAX as u128 {
-        return Err(WholeFault::Inexact);
-    }
-    let number = size as i64;
-    exact_number(if negative { -number } else { number })
+    Whole::of_number(signed_number(negative, size))
 }
 
 /// The same of a plain number.
 fn exact_plain(negative: bool, size: u64) -> Result<Whole, WholeFault>
     ensures { result ≡ exact (with_sign negative size) }
 {
-    exact_size(negative, u128::from(size))
+    Whole::of_number(signed_plain(negative, size))
 }
 
 /// The value of a decimal as a double.

@@ -1,39 +1,30 @@
 //! The cell that an operator gives of cells.
 ghost use Rattle.std.specs.Prelude.{◌≡◌, ◌≤◌, ◌^◌, Bool, IfSome, not, neg_ℤ, pos, ◌&&◌, ◌||◌, unsigned_abs};
-ghost use Rattle.tall_int.specs.Doubles.{exact, whole_abs, whole_neg};
-ghost use Rattle.tall_value.specs.Cells.{Seen, is_nan, logical, seen, seen_kind, whole};
+ghost use Rattle.tall_int.specs.Doubles.{whole_abs, whole_neg};
+ghost use Rattle.tall_value.specs.Cells.{Seen, double, is_nan, logical, seen, seen_kind, whole};
 ghost use Rattle.tall_value.specs.Classes.{class_of};
 ghost use Rattle.tall_value.specs.ClassTables.{binary_class, unary_class};
 ghost use Rattle.tall_value.specs.declared.class.Class.{Class};
 ghost use Rattle.tall_value.specs.CellOperators.{above, arithmetic, as_double, below, binary_cell, bits, comparison, compared, double_cell, equal, in_class, integer_side, joined, of_doubles, or_zero, signed, to_double, to_integer, truth, truth_cell, unary_cell};
-ghost use Rattle.tall_value.specs.Results.{result_seen};
+ghost use Rattle.tall_value.specs.Results.{result_seen, shown_result};
 ghost use Rattle.tall_value.specs.Tasks.{bit_operation};
 
 use crate::cell::{Cell, Content};
 use crate::class::IntKind;
+use crate::comparisons::{compared, is_above, is_below, is_equal};
+use crate::doubles::{checked, double_of_logical, to_double};
 use crate::faults::CellFault;
 use crate::integers::{BitOperator, Task, made};
 use crate::operators::{Binary, Unary};
 use std::cmp::Ordering;
 use tall_int::{Arith, Whole, WholeFault};
 
-/// A whole double of a small number.
-fn small_double(n: i64) -> Whole
-    requires { unsigned_abs n ≤ 2 ^ 53 }
-    ensures { result ≡ Some n }
-{
-    match Whole::new(n) {
-        Some(d) => d,
-        None => Whole::nan(),
-    }
-}
-
 /// The double that a logical or a double counts as.
 fn as_double(cell: &Cell<'_>) -> Whole
     ensures { result ≡ as_double (seen cell.now) }
 {
     match cell.content() {
-        Content::Logical(b) => small_double(if b { 1 } else { 0 }),
+        Content::Logical(b) => double_of_logical(b),
         Content::Double(d) => d,
         _ => Whole::nan(),
     }
@@ -49,13 +40,13 @@ fn integer_side(a: &Cell<'_>, b: &Cell<'_>) -> Option<IntKind>
     }
 }
 
-fn double_cell<'a>(computed: Result<Whole, WholeFault>) -> Result<Cell<'a>, CellFault>
-    ensures { result_seen result ≡ double_cell computed }
+/// The cell of a double.
+fn double_cell<'a>(computed: Result<Whole, CellFault>) -> Result<Cell<'a>, CellFault>
+    ensures { result_seen result ≡ shown_result (λ d. double d) computed }
 {
     match computed {
         Ok(d) => Ok(Cell::Double(d)),
-        Err(WholeFault::Inexact) => Err(CellFault::Inexact),
-        Err(WholeFault::NotWhole) => Err(CellFault::NotWhole),
+        Err(fault) => Err(fault),
     }
 }
 
@@ -88,7 +79,7 @@ fn arithmetic<'a>(op: Arith, a: &Cell<'_>, b: &Cell<'_>) -> Result<Cell<'a>, Cel
 {
     match integer_side(a, b) {
         Some(kind) => Ok(in_class(kind, op, a.amount(), b.amount())),
-        None => double_cell(of_doubles(op, as_double(a), as_double(b))),
+        None => double_cell(checked(of_doubles(op, as_double(a), as_double(b)))),
     }
 }
 
@@ -114,15 +105,6 @@ fn bits<'a>(op: BitOperator, a: &Cell<'_>, b: &Cell<'_>) -> Result<Cell<'a>, Cel
     }
 }
 
-fn compared(a: Option<i128>, b: Option<i128>) -> Option<Ordering>
-    ensures { result ≡ compared a b }
-{
-    match (a, b) {
-        (Some(a), Some(b)) => Some(a.cmp(&b)),
-        _ => None,
-    }
-}
-
 /// How two cells compare; none with a NaN.
 fn comparison(a: &Cell<'_>, b: &Cell<'_>) -> Option<Ordering>
     ensures { result ≡ comparison (seen a.now) (seen b.now) }
@@ -131,24 +113,6 @@ fn comparison(a: &Cell<'_>, b: &Cell<'_>) -> Option<Ordering>
         (Content::Text(a), Content::Text(b)) => Some(a.cmp(b)),
         _ => compared(a.amount(), b.amount()),
     }
-}
-
-fn is_equal(order: Option<Ordering>) -> bool
-    ensures { result ≡ equal order }
-{
-    matches!(order, Some(Ordering::Equal))
-}
-
-fn is_below(order: Option<Ordering>) -> bool
-    ensures { result ≡ below order }
-{
-    matches!(order, Some(Ordering::Less))
-}
-
-fn is_above(order: Option<Ordering>) -> bool
-    ensures { result ≡ above order }
-{
-    matches!(order, Some(Ordering::Greater))
 }
 
 /// A cell as a logical: a nonzero number is true.
@@ -222,28 +186,6 @@ fn converted<'a>(kind: IntKind, cell: &Cell<'_>) -> Result<Cell<'a>, CellFault>
     ensures { result_seen result ≡ to_integer kind (seen cell.now) }
 {
     Ok(made(kind, Task::Nearest(or_zero(cell.amount()))))
-}
-
-/// A number as a double, if its magnitude is at most 2^53.
-fn exact_double(n: i128) -> Result<Whole, WholeFault>
-    ensures { result ≡ exact n }
-{
-    match i64::try_from(n) {
-        Ok(small) => match Whole::new(small) {
-            Some(d) => Ok(d),
-            None => Err(WholeFault::Inexact),
-        },
-        Err(_) => Err(WholeFault::Inexact),
-    }
-}
-
-fn double_of<'a>(n: Option<i128>) -> Result<Cell<'a>, CellFault>
-    ensures { result_seen result ≡ to_double n }
-{
-    match n {
-        Some(n) => double_cell(exact_double(n)),
-        None => Ok(Cell::Double(Whole::nan())),
-    }
 }
 
 fn opposite(n: i128) -> i128
@@ -324,7 +266,7 @@ pub fn unary<'a>(op: Unary, a: &Cell<'_>) -> Result<Cell<'a>, CellFault>
         Unary::ToUint16 => converted(IntKind::Uint16, a),
         Unary::ToUint32 => converted(IntKind::Uint32, a),
         Unary::ToUint64 => converted(IntKind::Uint64, a),
-        Unary::ToDouble => double_of(a.amount()),
+        Unary::ToDouble => double_cell(to_double(a.amount())),
         Unary::ToLogical => to_logical(a),
         Unary::IsNan => logical(is_nan(a)),
     }

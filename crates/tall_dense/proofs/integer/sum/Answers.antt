@@ -1,6 +1,5 @@
-use Rattle.std.specs.Prelude.{◌+ℤ◌}
-use Rattle.tall_dense.proofs.Ranges.{narrowed}
+use Rattle.tall_dense.proofs.Narrowed.{narrowed}
 use Rattle.tall_dense.proofs.integer.sum.Goals as goal
 
 pub returns : goal.returns
-returns g c = narrowed ◌+ℤ◌ _ _ _ _ _ _ _ _ _ _ c.widen.ensures c.widen-2.ensures c.plus.ensures c.narrow.ensures g.met.I.Integer.within
+returns g c = narrowed _ _ _ _ _ _ _ c.plus.ensures c.narrow.ensures g.met.I.Integer.within

@@ -1,0 +1,5 @@
+use Rattle.std.proofs.Common.{length}
+use Rattle.tall_clamp.proofs.clamps.Clamp.+of_rows.Given as goal
+
+abbrev pub decreases-of_rows : goal.decreases-of_rows
+decreases-of_rows g l = length l.rows.now

@@ -1,0 +1,12 @@
+use Rattle.std.proofs.Common.{arith, sym, ap, ◌∙◌, ◌+ℤ◌}
+use Rattle.std.proofs.lemmas.Int.{ints, to_z-of_z}
+use mir.Val.{SFits}
+use mir.Syntax.{w64}
+use Rattle.tall_clamp.proofs.RunLemmas.{total_more}
+use Rattle.tall_clamp.proofs.runs.small_total.Goals as goal
+
+pub loop-v-preserved : goal.loop-v-preserved
+loop-v-preserved g c =
+    let fs : SFits w64 c.next_sum-sum.result = record { sfits = c.next_sum-sum.type_inv } in
+    let more = total_more g.I.IntClass.number c.args.rows.now c.loop-v.v-index c.v-item.result c.loop-v-test.true c.v-item.is in
+    simp to_z-of_z (c.next_sum-sum.ensures.value ∙ ap (λ s. s +ℤ g.I.IntClass.number c.v-item.result) c.loop-v.invariant.0 ∙ sym more, omega (arith, ints), omega (arith, ints))
