@@ -5,7 +5,7 @@ use Rattle.std.proofs.lemmas.List.{append-nil, append_assoc, drop-append-le, dro
 use Rattle.csv.specs.Records.{Rising, Row, cut_from, fields_of, last_end, partial_of, prev, text_of}
 use Rattle.csv.proofs.RecordFacts.{cut-length, cut-more, field-bounds, last-append, rising-end, rising-first, rising-more}
 use Rattle.csv.proofs.ReadFacts.{get-same}
-use Rattle.tall_cut.specs.Rows.{Fields}
+use Rattle.tall_scan.specs.Rows.{Fields}
 use Rattle.tall_cut.specs.Blocks.{Closed, ends_from, groups, joined}
 use Rattle.std.proofs.Math.Seq.{drop-append_seam, take-append_seam}
 

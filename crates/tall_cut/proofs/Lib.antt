@@ -1,5 +1,5 @@
-pub mod Rows
 pub mod Blocks
+pub mod Taken
 pub mod Cuts
 pub mod Limits
 pub mod Worked

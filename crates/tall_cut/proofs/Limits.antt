@@ -3,7 +3,7 @@ use Rattle.std.proofs.Common.{◌≡◌, ◌≤◌, ◌<◌, ◌+◌, ◌^◌, �
 use Rattle.std.specs.Prelude.{IfSome, nat_le, option_map}
 use Rattle.std.proofs.lemmas.Bool.{le-leb}
 use Rattle.tall_cut.specs.Feed.{Inside, within_limit}
-use Rattle.tall_cut.specs.Rows.{file_records}
+use Rattle.tall_scan.specs.Rows.{file_records}
 
 -- all of it comes
 pub within_whole : (limit : ℕ) (bytes : List ℕ) → length bytes ≤ limit → within_limit limit 0 (Some bytes) ≡ Some bytes

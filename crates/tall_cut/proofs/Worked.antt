@@ -6,7 +6,7 @@ use Rattle.csv.specs.Reading.{records_from, strip_bom}
 use Rattle.tall_cut.specs.Asked.{and_name, size_in}
 use Rattle.tall_cut.specs.Blocks.{ends_from, groups, joined}
 use Rattle.tall_cut.specs.Feed.{within_limit}
-use Rattle.tall_cut.specs.Rows.{file_records}
+use Rattle.tall_scan.specs.Rows.{file_records}
 
 pub no_bytes : file_records 44 [] ≡ []
 unfolding next_record records_from strip_bom

@@ -2,7 +2,7 @@
 use Rattle.std.specs.Prelude.{◌≡◌, ◌+◌, ◌-◌, ℕ, List, [], ◌∷◌, ◌++◌, take, drop, length}
 use Rattle.csv.specs.Records.{Rising, cut_from, last_end}
 use Rattle.tall_cut.specs.declared.block.Block.{Block}
-use Rattle.tall_cut.specs.Rows.{Fields}
+use Rattle.tall_scan.specs.Rows.{Fields}
 
 -- the fields in groups that end at these places, after a start
 unfoldable pub groups : ℕ → List ℕ → Fields → List Fields

@@ -1,4 +1,4 @@
-pub mod Rows
+pub use Rattle.tall_scan.specs.Rows
 pub mod Blocks
 pub mod Feed
 pub mod Left

@@ -1,97 +1,66 @@
-// Reading records one after the other into a block.
+// Reading the records of a raw block.
 
-ghost use Rattle.std.specs.Prelude.{◌≡◌, [], option_map, true};
+ghost use Rattle.std.specs.Prelude.{◌≡◌, [], IfOk, OnOk, Some, true};
 ghost use Rattle.csv.specs.Records.{fields_of};
-ghost use Rattle.csv.specs.Reading.{reader_source};
-ghost use Rattle.tall_cut.specs.Rows.{IsCutting, file_records};
-ghost use Rattle.tall_cut.specs.Blocks.{IsClosed};
-ghost use Rattle.tall_cut.specs.Left.{feed_left, is_at_end, reader_left};
-ghost use Rattle.tall_cut.specs.Reading.{TakesRows, TakesRow};
+ghost use Rattle.tall_scan.specs.Rows.{IsCutting, records_left};
+ghost use Rattle.tall_scan.specs.Finding.{raw_records};
+ghost use Rattle.tall_scan.specs.Texts.{text_left};
+ghost use Rattle.tall_cut.specs.Blocks.{IsClosed, block_records};
+ghost use Rattle.tall_cut.specs.Reading.{TakesRow};
 
 use crate::block::Block;
-use crate::feed::{Feed, OpenedFile};
 use csv::{ByteRecord, Reader, ReaderBuilder};
-use std::alloc::Global;
-use tall_outside::Shelf;
+use std::alloc::{AllocError, Global};
+use tall_scan::{RawBlock, Text};
 
-/// How far the reading of a file came.
-#[derive(Clone, Copy, PartialEq, Eq, Debug)]
-pub(crate) enum Progress {
-    /// The next record may be read.
-    Reading,
-    /// The file has no further record.
-    Ended,
-    /// A read failed, or memory was wanting.
-    Stopped,
-}
-
-// A reader of all records that the feed gives, as they stand.
-#[tactic(auto, using(crate::proofs::Rows::fresh_left))]
-pub(crate) fn reader_of<'s, S: Shelf, K: OpenedFile>(
-    alloc: Global,
-    feed: Feed<'s, S, K>,
-    delimiter: u8,
-) -> Reader<Feed<'s, S, K>>
+// A reader of all records of a raw block, as they stand.
+fn reader_of(alloc: Global, raw: &RawBlock) -> Reader<Text<'_>>
     ensures cutting { IsCutting result }
-    ensures left { reader_left result ≡ option_map (file_records delimiter) (feed_left feed.entry) }
-    ensures source { reader_source result ≡ feed.entry }
+    ensures left { records_left text_left result ≡ Some (raw_records raw.now) }
 {
+    let text = Text::new(raw.bytes());
     ReaderBuilder::new()
-        .delimiter(delimiter)
+        .delimiter(raw.delimiter())
         .has_headers(false)
         .flexible(true)
-        .from_reader(alloc, feed)
+        .from_reader(alloc, text)
 }
 
-// Reads the next record into `row`.
-fn read_row<'s, S: Shelf, K: OpenedFile>(
-    reader: &mut Reader<Feed<'s, S, K>>,
-    row: &mut ByteRecord,
-) -> Progress
+// Reads the next record into `row`, if there is one.
+fn read_row(reader: &mut Reader<Text<'_>>, row: &mut ByteRecord) -> Result<bool, AllocError>
     requires { IsCutting reader.old }
-    ensures ready { result ≡ Progress.Reading → IsCutting reader.new }
-    ensures takes { TakesRow result (reader_left reader.old) (fields_of row.new) (reader_left reader.new) }
-    ensures end { result ≡ Progress.Ended → is_at_end reader.new ≡ true }
+    ensures cutting { IfOk result (λ some. some ≡ true → IsCutting reader.new) }
+    ensures takes { IfOk result (λ some. TakesRow some (records_left text_left reader.old) (fields_of row.new) (records_left text_left reader.new)) }
 {
     match reader.read_byte_record(row) {
-        Ok(true) => return Progress::Reading,
-        // That no record was found is `csv`'s word; that the file is at its end is the feed's.
-        Ok(false) => {
-            return if reader.get_ref().is_at_end() {
-                Progress::Ended
-            } else {
-                Progress::Stopped
-            };
-        }
-        Err(_) => return Progress::Stopped,
+        Ok(true) => return Ok(true),
+        Ok(false) => return Ok(false),
+        // A text in memory is always read, so memory was wanting.
+        Err(_) => return Err(AllocError),
     }
 }
 
-// Reads so many records, fewer only where the file ends, and adds them to the block.
-#[tactic(auto, using(crate::proofs::Rows::many_start, crate::proofs::Rows::many_rows, crate::proofs::Rows::many_end, crate::proofs::Blocks::groups_none))]
-pub(crate) fn read_records<'s, S: Shelf, K: OpenedFile>(
-    reader: &mut Reader<Feed<'s, S, K>>,
-    row: &mut ByteRecord,
+// Reads all records of a raw block into a block that has none.
+#[tactic(auto, using(crate::proofs::Blocks::groups_none, crate::proofs::Blocks::groups_length, tall_scan::proofs::Rows::many_start, tall_scan::proofs::Rows::many_rows, crate::proofs::Taken::all_taken, crate::proofs::Taken::one_is_left))]
+pub(crate) fn read_records(
+    alloc: Global,
+    raw: &RawBlock,
     block: &mut Block,
-    rows: u64,
-) -> Progress
-    requires cutting { IsCutting reader.old }
-    requires none { block.old.ends.items ≡ [] }
+) -> Result<(), AllocError>
     requires closed { IsClosed block.old }
-    ensures takes { TakesRows result rows (reader_left reader.old) block.new (reader_left reader.new) }
-    ensures ready { result ≡ Progress.Reading → IsCutting reader.new }
-    ensures end { result ≡ Progress.Ended → is_at_end reader.new ≡ true }
+    requires none { block.old.ends.items ≡ [] }
+    ensures closed { OnOk result (IsClosed block.new) }
+    ensures records { OnOk result (block_records block.new ≡ raw_records raw.now) }
 {
-    for _taken in 0..rows {
-        match read_row(reader, row) {
-            Progress::Reading => {
-                if block.add(row).is_err() {
-                    return Progress::Stopped;
-                }
-            }
-            Progress::Ended => return Progress::Ended,
-            Progress::Stopped => return Progress::Stopped,
+    let mut reader = reader_of(alloc, raw);
+    let mut row = ByteRecord::new(alloc);
+    for _taken in 0..raw.count() {
+        let some = read_row(&mut reader, &mut row)?;
+        if some {
+            block.add(&mut row)?;
+        } else {
+            unreachable!();
         }
     }
-    Progress::Reading
+    Ok(())
 }

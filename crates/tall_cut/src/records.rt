@@ -1,10 +1,12 @@
 // The records of a block, as a caller sees them.
 
 ghost use Rattle.std.specs.Prelude.{◌≡◌, ◌<◌, [], length, get_or};
-ghost use Rattle.tall_cut.specs.Blocks.{IsInside, block_records};
 
 use crate::block::{Block, start_of};
+use crate::reading::read_records;
+use std::alloc::{AllocError, Global};
 use std::marker::Model;
+use tall_scan::RawBlock;
 
 /// Consecutive records of a file. A record is a list of fields, a field a list of bytes without
 /// the quotes around it; records may differ in their number of fields.
@@ -25,6 +27,9 @@ impl Model for Records {
 }
 
 impl Records {
+    ghost use Rattle.std.specs.Prelude.{OnErr, OnOk};
+    ghost use Rattle.tall_scan.specs.Finding.{raw_records};
+
     /// How many records there are.
     pub fn len(&self) -> usize
         ensures { result ≡ length self.now }
@@ -51,17 +56,30 @@ impl Records {
         self.block.field(start_of(&self.block.ends, i) + k)
     }
 
-    // The block, which gives its memory.
-    pub(crate) fn into_block(self) -> Block {
-        let Records { block } = self;
-        block
+    /// No record.
+    pub fn new(alloc: Global) -> Records
+        ensures { result ≡ [] }
+    {
+        Records {
+            block: Block::new(alloc),
+        }
     }
 
-    // The records of a block.
-    pub(crate) fn of(block: Block) -> Records
-        requires { IsInside block }
-        ensures { result ≡ block_records block }
+    /// Reads the records of a raw block in place of those here, whose memory is used again.
+    ///
+    /// Where memory is wanting, no record is here.
+    #[tactic(auto, using(crate::proofs::Blocks::groups_none))]
+    pub fn parse(&mut self, alloc: Global, raw: &RawBlock) -> Result<(), AllocError>
+        ensures records { OnOk result (self.new ≡ raw_records raw.now) }
+        ensures none { OnErr result (self.new ≡ []) }
     {
-        Records { block }
+        self.block.clear();
+        match read_records(alloc, raw, &mut self.block) {
+            Ok(()) => return Ok(()),
+            Err(_) => {
+                self.block.clear();
+                return Err(AllocError);
+            }
+        }
     }
 }

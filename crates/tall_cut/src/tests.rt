@@ -1,96 +1,110 @@
-//! What a cutter gives of small files, against records that were written by hand.
+//! What a cutter gives of small files, against records that were written by hand, and of random ones, against `csv`.
 
 ghost use Rattle.std.specs.Prelude.{◌<◌};
 ghost use Rattle.std.specs.String.{string_bytes};
 ghost use Rattle.tall_cut.specs.Asked.{Asks};
 ghost use Rattle.tall_cut.specs.Cuts.{rows_of};
 
-use crate::{Cause, Cutter, FeedFault, Lent, Next, OpenedFile, ReadSize, Records, open_feed};
+use crate::{
+    Cause, Cutter, FeedFault, Found, Lent, Next, OpenedFile, ReadSize, Records, open_feed,
+};
+use csv::{ByteRecord, ReaderBuilder};
 use std::alloc::{AllocError, Global};
-use std::fmt::Write;
 use std::marker::Brand;
 use std::process::Abort;
-use std::str::from_utf8;
 use std::test::Fail;
 use tall_outside::{MemShelf, Shelf, has_distinct_names};
 
 /// How a test reads its file.
 #[derive(Clone, Copy, Debug)]
 struct Plan {
-    delimiter: u8,
     limit: u64,
     size: ReadSize,
-    /// Whether every other record is asked for alone.
-    alone: bool,
-    /// Whether blocks are given back.
-    given_back: bool,
+    /// Whether blocks are found first, two at a time, and then read.
+    raw: bool,
 }
 
-/// Blocks of all rows of a file of any length.
-const WHOLE: Plan = Plan {
-    delimiter: b',',
-    limit: 1 << 50,
-    size: ReadSize::File,
-    alone: false,
-    given_back: false,
-};
-
 /// Writes each record as a line of its fields in brackets.
-fn write_records(text: &mut String, block: &Records) -> Result<(), AllocError> {
+fn write_records(text: &mut Vec<u8>, block: &Records) -> Result<(), AllocError> {
     for i in 0..block.len() {
         for k in 0..block.width(i) {
-            write!(text, "[{}]", from_utf8(block.field(i, k)).unwrap_or("?"))?;
+            text.push(b'[')?;
+            text.extend_from_slice(block.field(i, k))?;
+            text.push(b']')?;
         }
-        writeln!(text)?;
+        text.push(b';')?;
     }
     Ok(())
 }
 
-/// Writes the records of an answer, or its word. Tells whether there may be more.
-fn write_answer<'s, S: Shelf, K: OpenedFile>(
-    text: &mut String,
+/// Writes why a cutter stopped.
+fn write_cause(text: &mut Vec<u8>, cause: Cause) -> Result<(), AllocError> {
+    match cause {
+        Cause::Failed => text.extend_from_slice(b"failed"),
+        Cause::TooLarge => text.extend_from_slice(b"too large"),
+        Cause::Memory => text.extend_from_slice(b"memory"),
+    }
+}
+
+/// Writes the next block, or the answer's word. Tells whether there may be more.
+fn write_next<'s, S: Shelf, K: OpenedFile>(
+    text: &mut Vec<u8>,
     cutter: &mut Cutter<'s, S, K>,
-    answer: Next,
-    given_back: bool,
 ) -> Result<bool, AllocError> {
-    match answer {
+    match cutter.next_block() {
         Next::Block(block) => {
             write_records(text, &block)?;
-            if given_back {
-                cutter.give_back(block);
-            }
+            cutter.give_back(block);
             return Ok(true);
         }
-        Next::End => write!(text, "end ")?,
-        Next::Stopped => match cutter.cause() {
-            Cause::Failed => write!(text, "failed ")?,
-            Cause::TooLarge => write!(text, "too large ")?,
-            Cause::Memory => write!(text, "memory ")?,
-        },
+        Next::End => text.extend_from_slice(b"end")?,
+        Next::Stopped => write_cause(text, cutter.cause())?,
     }
     Ok(false)
 }
 
-/// Writes all that a cutter gives, and what it answers to two further calls.
-fn write_all<'s, S: Shelf, K: OpenedFile>(
-    text: &mut String,
+/// The same of blocks that are found first.
+fn write_raw<'s, S: Shelf, K: OpenedFile>(
+    alloc: Global,
+    text: &mut Vec<u8>,
+    records: &mut Records,
     cutter: &mut Cutter<'s, S, K>,
-    plan: Plan,
+) -> Result<bool, AllocError> {
+    match cutter.next_raw(2) {
+        Found::Block(raw) => {
+            records.parse(alloc, &raw)?;
+            write_records(text, records)?;
+            cutter.give_back_raw(raw);
+            return Ok(true);
+        }
+        Found::End => text.extend_from_slice(b"end")?,
+        Found::Stopped => write_cause(text, cutter.cause())?,
+    }
+    Ok(false)
+}
+
+/// Writes all that a cutter gives, its first record by itself.
+fn write_all<'s, S: Shelf, K: OpenedFile>(
+    alloc: Global,
+    text: &mut Vec<u8>,
+    cutter: &mut Cutter<'s, S, K>,
+    raw: bool,
 ) -> Result<(), AllocError> {
-    for turn in 0..100u32 {
-        let answer = if plan.alone && turn % 2 == 0 {
-            cutter.first_record()
+    let mut records = Records::new(alloc);
+    if let Next::Block(block) = cutter.first_record() {
+        write_records(text, &block)?;
+        cutter.give_back(block);
+    }
+    for _turn in 0..1000u32 {
+        let more = if raw {
+            write_raw(alloc, text, &mut records, cutter)?
         } else {
-            cutter.next_block()
+            write_next(text, cutter)?
         };
-        if !write_answer(text, cutter, answer, plan.given_back)? {
+        if !more {
             break;
         }
     }
-    let answer = cutter.first_record();
-    write_answer(text, cutter, answer, false)?;
-    let answer = cutter.next_block();
-    write_answer(text, cutter, answer, false)?;
     Ok(())
 }
 
@@ -101,15 +115,15 @@ fn write_file<'s, S: Shelf, K: OpenedFile>(
     name: &String,
     limit: u64,
     plan: Plan,
-    text: &mut String,
+    text: &mut Vec<u8>,
 ) -> Lent<'s, S>
     requires asks { Asks S.Shelf K.OpenedFile lent.shelf.ghost_name lent.shelf.now (string_bytes name.now) limit }
     requires rows { 0 < rows_of plan.size }
 {
     match open_feed::<S, K>(lent, name.as_str(), limit) {
         Ok(feed) => {
-            let mut cutter: Cutter<'s, S, K> = Cutter::new(alloc, feed, plan.delimiter, plan.size);
-            let _ = write_all(text, &mut cutter, plan);
+            let mut cutter: Cutter<'s, S, K> = Cutter::new(alloc, feed, b',', plan.size);
+            let _ = write_all(alloc, text, &mut cutter, plan.raw);
             cutter.into_lent()
         }
         Err(refused) => {
@@ -118,7 +132,7 @@ fn write_file<'s, S: Shelf, K: OpenedFile>(
                 FeedFault::Failed => "failed to open",
                 FeedFault::Memory => "no memory to open",
             };
-            let _ = text.push_str(word);
+            let _ = text.extend_from_slice(word.as_bytes());
             refused.lent
         }
     }
@@ -135,8 +149,8 @@ fn some_rows(size: ReadSize) -> ReadSize
 }
 
 /// The records of a file of this shelf, as text.
-fn text_of<S: Shelf>(alloc: Global, shelf: &mut S, name: &String, plan: Plan) -> String {
-    let mut text = String::new(alloc);
+fn text_of<S: Shelf>(alloc: Global, shelf: &mut S, name: &String, plan: Plan) -> Vec<u8> {
+    let mut text = Vec::new(alloc);
     let plan = Plan {
         size: some_rows(plan.size),
         ..plan
@@ -160,71 +174,36 @@ fn shelf_of(
     Ok(shelf)
 }
 
-/// Small files, each with its records.
-const FILES: [(&[u8], &str); 20] = [
-    (b"", ""),
-    (b"x", "[x]\n"),
-    (b"\n", ""),
-    (b"x\n1\n2\n", "[x]\n[1]\n[2]\n"),
-    (b"x,y\r\n1,2\r\n", "[x][y]\n[1][2]\n"),
-    (b"a\rb\rc", "[a]\n[b]\n[c]\n"),
-    (b"\n\r\na\n\n\nb\n\n", "[a]\n[b]\n"),
-    (b"\xEF\xBB\xBF", ""),
-    (b"\xEF\xBB\xBFa\nb", "[a]\n[b]\n"),
-    (b"a,\xEF\xBB\xBFb\n", "[a][\u{FEFF}b]\n"),
-    (b"\"a,b\",c\n", "[a,b][c]\n"),
-    (b"\"a\"\"b\",\"\"\"\"\n", "[a\"b][\"]\n"),
-    (b"a\"b,c\"\"d\n", "[a\"b][c\"\"d]\n"),
-    (b"\"a\"b,c\n", "[ab][c]\n"),
-    (b"\"a\r\nb\"\n\"\"\n", "[a\r\nb]\n[]\n"),
-    (b"a\n\"b,c\nd", "[a]\n[b,c\nd]\n"),
-    (b",\n,,\na,\n", "[][]\n[][][]\n[a][]\n"),
-    (b"a,b,c\n1\n1,2,3,4", "[a][b][c]\n[1]\n[1][2][3][4]\n"),
-    (b" a , b \n \n", "[ a ][ b ]\n[ ]\n"),
-    (
-        b"1\n2\n3\n4\n5\n6\n7\n8\n",
-        "[1]\n[2]\n[3]\n[4]\n[5]\n[6]\n[7]\n[8]\n",
-    ),
-];
-
-const SIZES: [ReadSize; 5] = [
+const SIZES: [ReadSize; 4] = [
     ReadSize::Rows(1),
     ReadSize::Rows(2),
-    ReadSize::Rows(3),
-    ReadSize::Rows(7),
+    ReadSize::Rows(5),
     ReadSize::File,
 ];
 
-/// Each size of a block, with and without records that are asked for alone, with and without blocks given back.
-fn plans(alloc: Global) -> Result<Vec<Plan>, AllocError> {
-    let mut plans = Vec::new(alloc);
+/// Asserts that blocks of each size, found by reads of several lengths, have these records.
+fn assert_cut(
+    rt: &impl Abort,
+    alloc: Global,
+    bytes: &[u8],
+    records: &[u8],
+) -> Result<(), AllocError> {
+    let name = String::from_str(alloc, "a.csv")?;
+    let mut wanted = records.to_vec(alloc)?;
+    wanted.extend_from_slice(b"end")?;
     for size in SIZES {
-        for (alone, given_back) in [(false, false), (false, true), (true, false), (true, true)] {
-            plans.push(Plan {
-                size,
-                alone,
-                given_back,
-                ..WHOLE
-            })?;
-        }
-    }
-    Ok(plans)
-}
-
-#[test]
-fn blocks_joined_are_the_records(rt: HostRuntime) -> Result<(), Fail> {
-    let name = String::from_str(rt.alloc(), "a.csv")?;
-    let plans = plans(rt.alloc())?;
-    for (bytes, records) in FILES {
-        let wanted = format!(in rt.alloc(); "{records}end end end ")?;
-        for plan in plans.iter() {
-            for at_most in [1, 2, 5, usize::MAX] {
-                let mut shelf = shelf_of(&rt, rt.alloc(), bytes, at_most)?;
-                let text = text_of(rt.alloc(), &mut shelf, &name, *plan);
-                assert_eq!(rt;
-                    text.as_str(),
-                    wanted.as_str(),
-                    "{plan:?}, {at_most} a read"
+        for raw in [false, true] {
+            for at_most in [1, 7, usize::MAX] {
+                let mut shelf = shelf_of(rt, alloc, bytes, at_most)?;
+                let plan = Plan {
+                    limit: 1 << 50,
+                    size,
+                    raw,
+                };
+                let text = text_of(alloc, &mut shelf, &name, plan);
+                assert!(rt;
+                    text.as_slice() == wanted.as_slice(),
+                    "{bytes:?}, {plan:?}, {at_most} a read"
                 );
             }
         }
@@ -232,133 +211,103 @@ fn blocks_joined_are_the_records(rt: HostRuntime) -> Result<(), Fail> {
     Ok(())
 }
 
+/// Small files, each with its records.
+const FILES: [(&[u8], &[u8]); 12] = [
+    (b"", b""),
+    (b"x\n1\n2\n", b"[x];[1];[2];"),
+    (b"x,y\r\n1,2\r\n", b"[x][y];[1][2];"),
+    (b"a\rb\rc", b"[a];[b];[c];"),
+    (b"\n\r\na\n\n\nb\n\n", b"[a];[b];"),
+    (b"\xEF\xBB\xBF\"a\n\"\nb", b"[a\n];[b];"),
+    (b"\"a,b\",\"\"\"\"\n", b"[a,b][\"];"),
+    (b"a\"b,c\"\"d\n5\"\n", b"[a\"b][c\"\"d];[5\"];"),
+    (b"\"a\"b\"c\nd\"\n", b"[ab\"c];[d\"];"),
+    (b"a\n\"b,c\nd", b"[a];[b,c\nd];"),
+    (b",\n,,\na,", b"[][];[][][];[a][];"),
+    (
+        b"1\n\xEF\xBB\xBF2\n\xEF\xBB\xBF3\n",
+        b"[1];[\xEF\xBB\xBF2];[\xEF\xBB\xBF3];",
+    ),
+];
+
 #[test]
-fn any_other_ascii_byte_stands_between_fields(rt: HostRuntime) -> Result<(), Fail> {
-    let name = String::from_str(rt.alloc(), "a.csv")?;
-    for delimiter in 0..128u8 {
-        if matches!(delimiter, b'"' | b'\r' | b'\n') {
-            continue;
+fn blocks_joined_are_the_records(rt: HostRuntime) -> Result<(), Fail> {
+    for (bytes, records) in FILES {
+        assert_cut(&rt, rt.alloc(), bytes, records)?;
+    }
+    Ok(())
+}
+
+/// The records of a text, as `csv`'s own reader gives them.
+fn records_alone(alloc: Global, bytes: &[u8]) -> Result<Vec<u8>, AllocError> {
+    let mut reader = ReaderBuilder::new()
+        .has_headers(false)
+        .flexible(true)
+        .from_reader(alloc, bytes);
+    let mut row = ByteRecord::new(alloc);
+    let mut text = Vec::new(alloc);
+    for _turn in 0..1000u32 {
+        match reader.read_byte_record(&mut row) {
+            Ok(true) => {
+                for field in row.iter() {
+                    text.push(b'[')?;
+                    text.extend_from_slice(field)?;
+                    text.push(b']')?;
+                }
+                text.push(b';')?;
+            }
+            _ => break,
         }
-        let d = delimiter as char;
-        let (x, y) = if d == 'x' || d == 'y' {
-            ('X', 'Y')
-        } else {
-            ('x', 'y')
+    }
+    Ok(text)
+}
+
+/// The bytes on which reading depends, and one more.
+const ALPHABET: [u8; 8] = [b',', b'"', b'\r', b'\n', b'x', 0xEF, 0xBB, 0xBF];
+
+/// Random bytes of the alphabet.
+fn random_text(alloc: Global, seed: u64) -> Result<Vec<u8>, AllocError> {
+    let mut state = seed;
+    let mut bytes = Vec::new(alloc);
+    for _byte in 0..seed % 150 {
+        state = state
+            .wrapping_mul(6364136223846793005)
+            .wrapping_add(1442695040888963407);
+        bytes.push(ALPHABET[(state >> 61) as usize])?;
+    }
+    Ok(bytes)
+}
+
+#[test]
+fn random_files_are_read_as_csv_reads_them(rt: HostRuntime) -> Result<(), Fail> {
+    for seed in 0..150u64 {
+        let bytes = random_text(rt.alloc(), seed)?;
+        let records = records_alone(rt.alloc(), bytes.as_slice())?;
+        assert_cut(&rt, rt.alloc(), bytes.as_slice(), records.as_slice())?;
+    }
+    Ok(())
+}
+
+#[test]
+fn a_cutter_that_stops_tells_why(rt: HostRuntime) -> Result<(), Fail> {
+    let alloc = rt.alloc();
+    let name = String::from_str(alloc, "a.csv")?;
+    for raw in [false, true] {
+        let plan = Plan {
+            limit: 3,
+            size: ReadSize::Rows(1),
+            raw,
         };
-        let file = format!(in rt.alloc(); "{x}{d}\"{x}{d}{y}\"{d}\n{d}{y}")?;
-        let wanted = format!(in rt.alloc(); "[{x}][{x}{d}{y}][]\n[][{y}]\nend end end ")?;
-        let mut shelf = shelf_of(&rt, rt.alloc(), file.as_bytes(), usize::MAX)?;
-        let text = text_of(rt.alloc(), &mut shelf, &name, Plan { delimiter, ..WHOLE });
-        assert_eq!(rt; text.as_str(), wanted.as_str(), "byte {delimiter}");
+        let mut shelf = shelf_of(&rt, alloc, b"x\n1\n", 1)?;
+        let text = text_of(alloc, &mut shelf, &name, plan);
+        assert!(rt; text.as_slice() == b"[x];too large".as_slice());
+        let mut shelf = shelf_of(&rt, alloc, b"x\n1\n", 1)?;
+        shelf.fail_read(4)?;
+        let text = text_of(alloc, &mut shelf, &name, Plan { limit: 4, ..plan });
+        assert!(rt; text.as_slice() == b"[x];failed".as_slice());
+        shelf.fail_open(2)?;
+        let text = text_of(alloc, &mut shelf, &name, plan);
+        assert!(rt; text.as_slice() == b"failed to open".as_slice());
     }
-    Ok(())
-}
-
-/// Asserts that a text is a front of these records, and that the cutter then stopped for good, for a cause of this word.
-fn assert_stopped(
-    rt: &impl Abort,
-    alloc: Global,
-    text: &str,
-    records: &str,
-    cause: &str,
-) -> Result<(), Fail> {
-    let thrice = format!(in alloc; "{cause} {cause} {cause} ")?;
-    let given = text.strip_suffix(thrice.as_str());
-    let front = given.ok_or("the cutter went on")?;
-    assert!(rt; records.starts_with(front), "{front:?} of {records:?}");
-    Ok(())
-}
-
-#[test]
-fn more_bytes_than_the_limit_are_too_large(rt: HostRuntime) -> Result<(), Fail> {
-    let name = String::from_str(rt.alloc(), "a.csv")?;
-    for (bytes, records) in FILES {
-        let length = bytes.len() as u64;
-        let wanted = format!(in rt.alloc(); "{records}end end end ")?;
-        for size in SIZES {
-            for at_most in [1, 2, 5, usize::MAX] {
-                for limit in [length, length.saturating_add(1)] {
-                    let mut shelf = shelf_of(&rt, rt.alloc(), bytes, at_most)?;
-                    let plan = Plan {
-                        limit,
-                        size,
-                        ..WHOLE
-                    };
-                    let text = text_of(rt.alloc(), &mut shelf, &name, plan);
-                    assert_eq!(rt; text.as_str(), wanted.as_str());
-                }
-                if let Some(limit) = length.checked_sub(1) {
-                    let mut shelf = shelf_of(&rt, rt.alloc(), bytes, at_most)?;
-                    let plan = Plan {
-                        limit,
-                        size,
-                        ..WHOLE
-                    };
-                    let text = text_of(rt.alloc(), &mut shelf, &name, plan);
-                    assert_stopped(&rt, rt.alloc(), text.as_str(), records, "too large")?;
-                }
-            }
-        }
-    }
-    Ok(())
-}
-
-#[test]
-fn records_before_the_limit_are_given(rt: HostRuntime) -> Result<(), Fail> {
-    let name = String::from_str(rt.alloc(), "a.csv")?;
-    let mut shelf = shelf_of(&rt, rt.alloc(), b"x\n1\n", 1)?;
-    let plan = Plan {
-        limit: 3,
-        size: ReadSize::Rows(1),
-        ..WHOLE
-    };
-    let text = text_of(rt.alloc(), &mut shelf, &name, plan);
-    assert_eq!(rt; text.as_str(), "[x]\ntoo large too large too large ");
-    Ok(())
-}
-
-#[test]
-fn each_failing_read_stops_the_cutter_for_good(rt: HostRuntime) -> Result<(), Fail> {
-    let name = String::from_str(rt.alloc(), "a.csv")?;
-    for (bytes, records) in FILES {
-        for (at_most, size) in [
-            (1, ReadSize::Rows(1)),
-            (1, ReadSize::Rows(2)),
-            (1, ReadSize::File),
-            (5, ReadSize::Rows(1)),
-        ] {
-            let mut whole = shelf_of(&rt, rt.alloc(), bytes, at_most)?;
-            let _text = text_of(rt.alloc(), &mut whole, &name, Plan { size, ..WHOLE });
-            for call in 1..whole.reads().saturating_add(1) {
-                let mut shelf = shelf_of(&rt, rt.alloc(), bytes, at_most)?;
-                shelf.fail_read(call)?;
-                let text = text_of(rt.alloc(), &mut shelf, &name, Plan { size, ..WHOLE });
-                assert_eq!(rt; shelf.faults(), 1);
-                assert_stopped(&rt, rt.alloc(), text.as_str(), records, "failed")?;
-            }
-        }
-    }
-    Ok(())
-}
-
-#[test]
-fn a_failing_open_is_told(rt: HostRuntime) -> Result<(), Fail> {
-    let name = String::from_str(rt.alloc(), "a.csv")?;
-    let mut shelf = shelf_of(&rt, rt.alloc(), b"x\n1\n2\n", 1)?;
-    shelf.fail_open(1)?;
-    assert_eq!(rt;
-        text_of(rt.alloc(), &mut shelf, &name, WHOLE).as_str(),
-        "failed to open"
-    );
-    assert_eq!(rt;
-        text_of(rt.alloc(), &mut shelf, &name, WHOLE).as_str(),
-        "[x]\n[1]\n[2]\nend end end "
-    );
-    assert_eq!(rt; (shelf.faults(), shelf.opens("a.csv")), (1, 2));
-    let absent = String::from_str(rt.alloc(), "b.csv")?;
-    assert_eq!(rt;
-        text_of(rt.alloc(), &mut shelf, &absent, WHOLE).as_str(),
-        "no such file"
-    );
     Ok(())
 }

@@ -4,6 +4,6 @@ use Rattle.tall_cut.proofs.cutter.Cutter.cause.Goals as goal
 
 pub returns-then-too_large-clause-longer : goal.returns-then-too_large-clause-longer
 returns-then-too_large-clause-longer g c =
-    let feed = c.get_ref-feed.result.now in
+    let feed = c.reader-feed.result.now in
     let large : feed.too_large ≡ true = sym c.too_large.ensures ∙ c.if-too_large.true in
     λ _. is_longer _ (g.S.Shelf.came feed.shelf.now) _ _ feed.inside feed.small (rw feed.bound at (feed.large large))
