@@ -1,7 +1,7 @@
 -- From what `clap` says of a parse to what is found in the words, and from there to the command.
-use Rattle.std.proofs.Common.{◌∙◌, ◌≡◌, ap, ℕ, Bool, true, List, [], ◌∷◌, Option, Some, None, refl, sym, codes, inl, inr, subst}
+use Rattle.std.proofs.Common.{◌∙◌, ◌≡◌, ap, ℕ, true, List, [], ◌∷◌, Option, None, refl, sym, codes, inl, inr, subst}
 use Rattle.std.specs.Prelude.{option_map}
-use Rattle.clap.specs.Words.{App, HasKind, HasMatchesOf, IsAmong, kind_of, IsParsedFrom, Kinds, Row, Text, app_of, fault_of, first_value, found_of, is_simple, is_simple_and_free, matches_of, one_text, rows_of}
+use Rattle.clap.specs.Words.{HasKind, HasMatchesOf, IsAmong, kind_of, IsParsedFrom, Kinds, Text, app_of, fault_of, first_value, found_of, is_simple, is_simple_and_free, matches_of, one_text}
 use Rattle.clap.specs.declared.builder.command.Command.{Command as Parser}
 use Rattle.clap.specs.declared.error.Error.{Error}
 use Rattle.clap.specs.declared.error.kind.ErrorKind.TheVariants.{OutOfMemory}

@@ -1,5 +1,5 @@
 -- The numbers that `clap` reads for the two options: their texts passed the options' own parsers.
-use Rattle.std.proofs.Common.{◌∙◌, ◌≡◌, ◌<◌, ap, ℕ, Bool, true, false, List, [], ◌∷◌, length, map, Option, Some, None, refl, sym, subst, inl, inr, arith, codes, get_or}
+use Rattle.std.proofs.Common.{◌∙◌, ◌≡◌, ◌<◌, ap, ℕ, Bool, true, false, List, [], ◌∷◌, length, map, Option, Some, None, refl, sym, subst, inl, inr, arith, codes}
 use Rattle.std.specs.Prelude.{option_map, slice_get, pos}
 use Rattle.std.specs.List.{All, slice_index_or}
 use Rattle.std.specs.Borrow.{Bor}

@@ -1,13 +1,12 @@
 -- The arguments of a parser that is seen as the command line: what its rules say of them.
-use Rattle.std.proofs.Common.{◌∙◌, ◌≡◌, ◌⊎◌, ◌<◌, ◌&&◌, ap, ℕ, zero, suc, Bool, true, false, not, List, [], ◌∷◌, length, map, Option, Some, None, refl, sym, subst, arith, codes, get_or, inl, inr}
+use Rattle.std.proofs.Common.{◌∙◌, ◌≡◌, ◌⊎◌, ◌<◌, ap, ℕ, zero, suc, Bool, true, false, not, List, [], ◌∷◌, length, map, Some, refl, sym, arith, codes, get_or, inl, inr}
 use Rattle.std.specs.Prelude.{slice_get}
-use Rattle.std.specs.List.{All, AllByRecursion, list_all, slice_index_or}
+use Rattle.std.specs.List.{AllByRecursion, list_all, slice_index_or}
 use Rattle.std.specs.Str.{bytes_eq}
 use Rattle.std.proofs.lemmas.Bool.{both_ways}
 use Rattle.std.proofs.lemmas.List.{length-map}
 use Rattle.std.proofs.lemmas.List.Elements.{All-from_recursion}
 use Rattle.clap.specs.Words.{Rule, Text, app_of, args_of, groups_of, rule_of}
-use Rattle.clap.specs.Walk.{is_empty}
 use Rattle.clap.specs.Built.{IsAuto, NamesNoGroup}
 use Rattle.clap.specs.declared.builder.arg.Arg.{Arg}
 use Rattle.clap.specs.declared.builder.command.Command.{Command}

@@ -1,5 +1,5 @@
 -- The demo's table, row by row: what is written, and then the rows from a state on, are the table.
-use Rattle.std.proofs.Common.{◌∙◌, ◌≡◌, ◌<◌, ◌≤◌, ◌+◌, ◌-◌, ◌++◌, ◌/◌, ap, ℕ, zero, suc, List, [], refl, sym, arith}
+use Rattle.std.proofs.Common.{◌∙◌, ◌≡◌, ◌<◌, ◌≤◌, ◌+◌, ◌-◌, ◌++◌, ◌/◌, ap, ℕ, suc, List, [], refl, sym, arith}
 use Rattle.std.proofs.lemmas.List.{append-nil, append_assoc}
 use Rattle.tall_words.specs.Demo.{next_state, row_text, rows_text}
 

@@ -1,5 +1,5 @@
 -- A command as definitions see it, and what is known of the words that `clap` has read.
-use Rattle.std.specs.Prelude.{◌≡◌, ◌≢◌, ◌≤◌, ℕ, List, [], Option, Some, None, codes, pos, string_bytes, map}
+use Rattle.std.specs.Prelude.{◌≡◌, ℕ, List, [], Some, codes, pos, string_bytes}
 use Rattle.clap.specs.Words.{Text, found_of, fault_of, matches_of, one_text, rows_of, without_minus}
 use Rattle.clap.specs.Values.{IsSignedIn}
 use Rattle.clap.specs.declared.parser.matches.ArgMatches.{ArgMatches}

@@ -1,4 +1,4 @@
-use Rattle.std.proofs.Common.{◌∙◌, ◌≡◌}
+use Rattle.std.proofs.Common.{◌∙◌}
 use Rattle.tall_words.proofs.Finding.{are_found, refused_words, simple_and_free}
 use Rattle.tall_words.proofs.command.found.Goals as goal
 

@@ -1,4 +1,4 @@
-use Rattle.std.proofs.Common.{◌≡◌, ◌++◌, ◌<◌, ◌^◌, ℕ, ◌-◌, string_bytes}
+use Rattle.std.proofs.Common.{◌≡◌, ◌++◌, ◌<◌, ◌^◌, ◌-◌, string_bytes}
 use Rattle.tall_words.specs.Demo.{rows_text, table_text}
 use Rattle.tall_words.proofs.demo.table.Given as goal
 
