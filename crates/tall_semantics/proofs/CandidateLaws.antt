@@ -34,7 +34,7 @@ only ns P (Some x) (Some y) numbered p q =
 
 -- ---- operands
 
-one_of : (f : ℕ → Tall) (args : List ℕ) (a : ℕ) → IsAmong args a → IsOneOf (shapes (map f args)) (f a).shape
+pub one_of : (f : ℕ → Tall) (args : List ℕ) (a : ℕ) → IsAmong args a → IsOneOf (shapes (map f args)) (f a).shape
 one_of f [] a h = absurd h
 one_of f (b ∷ args) a h = elim h [ inl e ↦ inl (ap (λ k. (f k).shape) e) | inr r ↦ inr (one_of f args a r) ]
 

@@ -23,3 +23,4 @@ pub mod AdditionLaws
 pub mod SampleLaws
 pub mod SpaceLaws
 pub mod PlanLaws
+pub mod ScanLevelLaws

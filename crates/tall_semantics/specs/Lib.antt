@@ -19,6 +19,8 @@ pub mod Additions
 pub mod Ranks
 pub mod Passes
 pub mod Plans
+pub mod ScanCarries
+pub mod ScanLevels
 pub mod ClassesOfCells
 pub mod RowsOfSpaces
 pub mod Samples
@@ -31,3 +33,4 @@ pub mod SpaceRows
 pub mod DeferredRows
 pub mod GraphRows
 pub mod PlanRows
+pub mod CarryRows

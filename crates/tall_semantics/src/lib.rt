@@ -20,4 +20,6 @@ pub use laws::{
     values_have_the_rows_of_their_space, values_have_their_class,
     values_in_order_are_the_solution,
 };
-pub use plans::{a_plan_has_a_pass_for_each_level_and_datastore, what_is_needed};
+pub use plans::{
+    a_level_keeps_the_carries, a_plan_has_a_pass_for_each_level_and_datastore, what_is_needed,
+};
