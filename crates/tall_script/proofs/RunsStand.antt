@@ -81,6 +81,7 @@ later_kept : IsKept Later
 later_kept = record { nothing = λ s. itself (length s.stores); both = λ s t u h k. at_most (length s.stores) (length t.stores) (length u.stores) h k } where
   itself : (n : ℕ) → n ≤ n
   itself n = omega arith
+
   at_most : (a b c : ℕ) → a ≤ b → b ≤ c → a ≤ c
   at_most a b c h i = omega (arith, h, i)
 
