@@ -4,3 +4,4 @@ mod PairLemmas
 mod CallsKept
 mod LiftedValues
 pub mod CallsAppended
+pub mod ValuesKept

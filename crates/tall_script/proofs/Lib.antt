@@ -6,3 +6,7 @@ mod OpeningsKept
 mod OneAnswer
 mod Sizes
 mod MapReduceApart
+mod Standing
+mod StatesStand
+mod CallsStand
+mod RunsStand

@@ -14,6 +14,8 @@ pub mod AllowedOpenings
 pub mod RunLaws
 pub mod StatesFollow
 pub mod Numbering
+pub mod StatementRows
+pub mod WellFormed
 pub mod NumberLaws
 pub mod OpeningLaws
 pub mod AnswerLaws

@@ -18,9 +18,10 @@ ghost use Rattle.tall_script.specs.Runs.{run_from};
 ghost use Rattle.tall_script.specs.ScriptLanguage.{Setting};
 ghost use Rattle.tall_script.specs.SizeLaws.{resized};
 ghost use Rattle.tall_script.specs.Statements.{body};
-ghost use Rattle.tall_script.specs.States.{State, Store, times_allowed};
+ghost use Rattle.tall_script.specs.States.{State, Store, empty_state, times_allowed};
 ghost use Rattle.tall_script.specs.StatesFollow.{Follows, done_state};
 ghost use Rattle.tall_script.specs.TallTables.{tall_of_store};
+ghost use Rattle.tall_script.specs.WellFormed.{IsWellFormed};
 ghost use Rattle.tall_semantics.specs.Talls.{Tall};
 ghost use Rattle.tall_store.specs.declared.faults.ReadingFault.{ReadingFault};
 ghost use Rattle.tall_value.specs.Cells.{Seen};
@@ -92,4 +93,11 @@ pub fn mapreduce_is_made_of_calls_on_empty_stores()
     ensures map_phase { (d : Store) (f : SeenFunction) (blocks : List (Result (List (List ℕ × SeenColumn)) ReadingFault)) (pairs : List Pair)
         → mapped d f blocks pairs ≡ joined_results (map (mapped_block d f) blocks) pairs }
     ensures reduce_phase { (f : SeenFunction) (pairs : List Pair) (keys : List Seen) (out : List Pair) → reduced f pairs keys out ≡ joined_results (map (reduced_key f pairs) keys) out }
+{}
+
+/// What is named in a script's state is there: the place of a datastore is that of one that was made, and the reading faults of
+/// tall values are those of such datastores. A run keeps it so, and it is so at its start.
+pub fn what_is_named_is_there()
+    ensures start { IsWellFormed empty_state }
+    ensures runs { (setting : Setting) (entries : List SeenStatement) (s : State Tall) → IsWellFormed s → IsWellFormed (run_from setting entries s).state }
 {}
