@@ -1,15 +1,12 @@
 -- mapreduce: the map function over the blocks of a datastore, in order, on one store; then the reduce function over the
 -- keys, in the order of their first adding, on another. docs/LANGUAGE.md, mapreduce.
-use Rattle.std.specs.Prelude.{ℕ, ◌+◌, length, List, [], ◌∷◌, ◌++◌, map, Option, None, Some, Result, Ok, Err, codes}
+use Rattle.std.specs.Prelude.{ℕ, List, [], ◌∷◌, ◌++◌, map, Option, None, Some, Result, Ok, Err, codes}
 use Rattle.tall_value.specs.Cells.{Seen}
 use Rattle.tall_column.specs.Columns.{SeenColumn}
-use Rattle.tall_outside.specs.Shelf.{Files, file_in}
+use Rattle.tall_outside.specs.Shelf.{Files}
 use Rattle.tall_grammar.specs.Trees.{SeenFunction}
 use Rattle.tall_store.specs.declared.faults.ReadingFault.{ReadingFault}
-use Rattle.tall_store.specs.Blocks.{block_table, in_blocks, numbered_blocks}
-use Rattle.tall_store.specs.Records.{data_in}
-use Rattle.tall_store.specs.Stored.{file_faults}
-use Rattle.tall_store.specs.Stores.{SeenStore}
+use Rattle.tall_store.specs.Blocks.{block_tables}
 use Rattle.tall_script.specs.Names.{put_name}
 use Rattle.tall_script.specs.Refusals.{Stop}
 use Rattle.tall_script.specs.Memory.{Memory, scalar, table}
@@ -47,24 +44,6 @@ call_map f block pairs = call_of f (value (table block) ∷ no_value ∷ store �
 
 abbrev pub call_reduce : SeenFunction → Seen → List Seen → List Pair → Called
 call_reduce f key values pairs = call_of f (value (scalar key) ∷ iterator ∷ store ∷ []) values pairs
-
--- ---- blocks
-
--- a fault of the file itself counts for the block that would come next
-abbrev pub fault_blocks : List ReadingFault → List (Result (List (List ℕ × SeenColumn)) ReadingFault)
-fault_blocks faults = map (λ f. Err f) faults
-
--- the blocks of files, each as a table or its first reading fault, from a place in the list and a row on
-abbrev pub tables_from : SeenStore → Files → (file row : ℕ) → List (List ℕ) → List (Result (List (List ℕ × SeenColumn)) ReadingFault)
-tables_from d files file row [] = []
-tables_from d files file row (name ∷ names) =
-    let found = data_in d (file_in files name) in
-    fault_blocks (file_faults d (file_in files name) file row)
-    ++ map (block_table d) (numbered_blocks file row (in_blocks d.size found))
-    ++ tables_from d files (file + 1) (row + length found) names
-
-abbrev pub block_tables : SeenStore → Files → List (Result (List (List ℕ × SeenColumn)) ReadingFault)
-block_tables d files = tables_from d files 0 1 d.files
 
 -- ---- the two phases
 

@@ -15,12 +15,11 @@ use Rattle.tall_script.specs.Lists.{all_of}
 use Rattle.tall_script.specs.Refusals.{Refusal, bad_argument, bad_class}
 use Rattle.tall_script.specs.ScriptValues.{TallValue}
 use Rattle.tall_script.specs.Values.{datastore, tall_table, Store, State}
-use Rattle.tall_script.specs.ReadingFaults.{kind_of_reading}
 
 -- a reading fault has the number and the line of the datastore's call
 abbrev pub stored_outcome : (place : ℕ) → Store → Result (List (ℕ × Seen)) ReadingFault → Outcome
 stored_outcome place d (Ok rs) = rows rs
-stored_outcome place d (Err f) = fault (record { number = d.at.number; row = Some f.row; column = f.column; store = place; cause = reading (kind_of_reading f.kind) f.file; line = d.at.line })
+stored_outcome place d (Err f) = fault (record { number = d.at.number; row = Some f.row; column = f.column; store = place; cause = reading f.kind f.file; line = d.at.line })
 
 -- the variables at the places of the selection, from one on
 abbrev pub stored_variables : Files → (place : ℕ) → Store → (from : ℕ) → List ℕ → List (List ℕ × Tall)
