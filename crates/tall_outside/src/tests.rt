@@ -58,15 +58,6 @@ fn reads_each_opened_file_from_its_first_byte(rt: HostRuntime) -> Result<(), Fai
 }
 
 #[test]
-fn closes_the_open_file_at_a_missing_name(rt: HostRuntime) -> Result<(), Fail> {
-    let mut shelf = two_files(&rt, rt.alloc())?;
-    let text = answers(rt.alloc(), &mut shelf, &["a.csv", "none.csv", ""])?;
-    assert_eq!(rt; text.as_str(), r#"Opened NoSuch "" "#);
-    assert_eq!(rt; (shelf.opens("none.csv"), shelf.faults()), (1, 0));
-    Ok(())
-}
-
-#[test]
 fn fails_the_planned_calls_and_loses_nothing(rt: HostRuntime) -> Result<(), Fail> {
     let mut shelf = two_files(&rt, rt.alloc())?;
     shelf.fail_open(2)?;
@@ -81,27 +72,6 @@ fn fails_the_planned_calls_and_loses_nothing(rt: HostRuntime) -> Result<(), Fail
         (shelf.opens("a.csv"), shelf.reads(), shelf.faults()),
         (3, 4, 2)
     );
-    Ok(())
-}
-
-#[test]
-fn gives_at_most_so_many_bytes_a_read(rt: HostRuntime) -> Result<(), Fail> {
-    let mut shelf = two_files(&rt, rt.alloc())?;
-    shelf.give_at_most(2);
-    let text = answers(rt.alloc(), &mut shelf, &["a.csv", "", "", "", ""])?;
-    assert_eq!(rt; text.as_str(), r#"Opened "x," "1," "2," "" "#);
-    Ok(())
-}
-
-#[test]
-fn finds_a_name_that_stands_twice(rt: HostRuntime) -> Result<(), Fail> {
-    let alloc = rt.alloc();
-    let files = vec![in alloc;
-        file(alloc, "a", "1")?,
-        file(alloc, "b", "2")?,
-        file(alloc, "a", "3")?,
-    ]?;
-    assert!(rt; !has_distinct_names(files.as_slice()));
     Ok(())
 }
 

@@ -37,7 +37,8 @@ use Rattle.tall_script.specs.ScriptValues.{TallValue}
 use Rattle.tall_script.specs.Statements.{Done, shows, fails, then_do, set_name, set_names, gather_into, put_store, alone, body, statement}
 use Rattle.tall_script.specs.States.{State, Store, with_openings}
 use Rattle.tall_script.specs.StatesFollow.{done_state}
-use Rattle.tall_script.specs.TallTables.{stored_outcome, stored_variables, tall_of, tall_of_store, tall_call}
+use Rattle.tall_stored.specs.StoredColumns.{stored_outcome}
+use Rattle.tall_script.specs.TallTables.{stored_variables, tall_of, tall_of_store, tall_call}
 use Rattle.tall_script.specs.WellFormed.{IsOfDatastore, OutcomeStands, TallsStand, Stands, NamesStand, IsWellFormed}
 use Rattle.tall_script.proofs.CallsStand.{AreStanding, ValuesStand, all_values, function_stands}
 use Rattle.tall_script.proofs.StatesStand.{prefix_stands, infix_stands, member_stands, index_stands}
@@ -137,7 +138,7 @@ datastores : (files : Files) (at : At) (args : List (Argument TallValue)) (s : S
 unfolding datastore_call
 datastores files at args s w = stored files at (options_in args) s w
 
-an_outcome : (n place : ℕ) (d : Store) (r : Result (List (ℕ × Seen)) ReadingFault) → place < n → OutcomeStands n (stored_outcome place d r)
+an_outcome : (n place : ℕ) (d : Store) (r : Result (List (ℕ × Seen)) ReadingFault) → place < n → OutcomeStands n (stored_outcome place d.at r)
 an_outcome n place d (Ok rs) h = tt
 an_outcome n place d (Err f) h = h
 

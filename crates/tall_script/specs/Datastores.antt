@@ -5,6 +5,8 @@ use Rattle.tall_semantics.specs.Faults.{At}
 use Rattle.tall_semantics.specs.Talls.{Tall}
 use Rattle.tall_store.specs.declared.faults.StoreFault.{StoreFault}
 use Rattle.tall_store.specs.declared.faults.StoreFault.TheVariants as store_fault
+use Rattle.tall_store.specs.declared.options.Property.{Property}
+use Rattle.tall_store.specs.declared.options.Property.TheVariants as property
 use Rattle.tall_store.specs.Opening.{first_name, opening}
 use Rattle.tall_store.specs.Options.{SeenOptions, is_accepted}
 use Rattle.tall_store.specs.Properties.{sized, selecting, formatted}
@@ -16,7 +18,7 @@ use Rattle.tall_local.specs.Refusals as refusal
 use Rattle.tall_local.specs.Memory.{Memory}
 use Rattle.tall_local.specs.Expressions.{Valued, gives, stops}
 use Rattle.tall_script.specs.ScriptValues.{TallValue}
-use Rattle.tall_script.specs.StoreArguments.{options_given, size_given, texts_given, formats_given, Property, read_size, selected_variable_names, textscan_formats}
+use Rattle.tall_script.specs.StoreArguments.{options_given, size_given, texts_given, formats_given}
 use Rattle.tall_local.specs.Values.{datastore, in_memory}
 use Rattle.tall_script.specs.States.{State, Openings, with_openings, with_store}
 
@@ -64,7 +66,7 @@ or_bad change (Some a) = elim (change a) [ Ok store ↦ Ok store | Err f ↦ Err
 
 -- the datastore with a property changed
 unfoldable pub changed : SeenStore → Property → TallValue → Result SeenStore Refusal
-changed store read_size (in_memory v) = or_bad (sized store) (size_given v)
-changed store selected_variable_names (in_memory v) = or_bad (selecting store) (texts_given v)
-changed store textscan_formats (in_memory v) = or_bad (formatted store) (formats_given v)
-changed store property v = Err bad_argument
+changed store property.ReadSize (in_memory v) = or_bad (sized store) (size_given v)
+changed store property.SelectedVariableNames (in_memory v) = or_bad (selecting store) (texts_given v)
+changed store property.TextscanFormats (in_memory v) = or_bad (formatted store) (formats_given v)
+changed store p v = Err bad_argument

@@ -1,14 +1,12 @@
 -- mapreduce: the map function over the blocks of a datastore, in order, on one store; then the reduce function over the
 -- keys, in the order of their first adding, on another. docs/LANGUAGE.md, mapreduce.
-use Rattle.std.specs.Prelude.{ℕ, ◌+◌, length, List, [], ◌∷◌, ◌++◌, map, None, Some, Result, Ok, Err, codes}
+use Rattle.std.specs.Prelude.{ℕ, List, [], ◌∷◌, ◌++◌, map, None, Some, Result, Ok, Err, codes}
 use Rattle.tall_value.specs.Cells.{Seen}
 use Rattle.tall_column.specs.Columns.{SeenColumn}
-use Rattle.tall_outside.specs.Shelf.{Files, file_in}
+use Rattle.tall_outside.specs.Shelf.{Files}
 use Rattle.tall_grammar.specs.Trees.{SeenFunction}
 use Rattle.tall_store.specs.declared.faults.ReadingFault.{ReadingFault}
-use Rattle.tall_store.specs.Blocks.{block_table, in_blocks, numbered_blocks}
-use Rattle.tall_store.specs.Records.{data_in}
-use Rattle.tall_store.specs.Stored.{file_faults}
+use Rattle.tall_store.specs.Blocks.{block_tables}
 use Rattle.tall_store.specs.Stores.{SeenStore}
 use Rattle.tall_local.specs.Refusals.{Stop}
 use Rattle.tall_local.specs.Memory.{Memory, table}
@@ -16,24 +14,6 @@ use Rattle.tall_local.specs.Pairs.{Pair, keys_of, values_of, column_of_cells, ke
 use Rattle.tall_local.specs.Calls.{CallResult, call_map, call_reduce}
 use Rattle.tall_script.specs.ReadingFaults.{stop_of_reading}
 use Rattle.tall_script.specs.States.{Store}
-
--- ---- blocks
-
--- a fault of the file itself counts for the block that would come next
-abbrev pub fault_blocks : List ReadingFault → List (Result (List (List ℕ × SeenColumn)) ReadingFault)
-fault_blocks faults = map (λ f. Err f) faults
-
--- the blocks of files, each as a table or its first reading fault, from a place in the list and a row on
-abbrev pub tables_from : SeenStore → Files → (file row : ℕ) → List (List ℕ) → List (Result (List (List ℕ × SeenColumn)) ReadingFault)
-tables_from d files file row [] = []
-tables_from d files file row (name ∷ names) =
-    let found = data_in d (file_in files name) in
-    fault_blocks (file_faults d (file_in files name) file row)
-    ++ map (block_table d) (numbered_blocks file row (in_blocks d.size found))
-    ++ tables_from d files (file + 1) (row + length found) names
-
-abbrev pub block_tables : SeenStore → Files → List (Result (List (List ℕ × SeenColumn)) ReadingFault)
-block_tables d files = tables_from d files 0 1 d.files
 
 -- ---- the two phases
 

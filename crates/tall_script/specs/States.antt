@@ -1,16 +1,9 @@
 -- What a script has so far: its names, its datastores, and how often files may have been opened. `D` stands for a tall column
 -- or a tall scalar.
 use Rattle.std.specs.Prelude.{ℕ, ◌+◌, if◌then◌else◌, List, [], ◌∷◌, ◌++◌}
-use Rattle.tall_semantics.specs.Faults.{At}
-use Rattle.tall_store.specs.Stores.{SeenStore}
 use Rattle.tall_local.specs.Names.{is_among}
 use Rattle.tall_local.specs.Values.{Value}
-
--- a datastore, with the number and the line of the call that made it or, for one that a property statement made, of the
--- call that made the datastore which it was
-pub record Store : Type 0 where
-  pub at : At
-  pub store : SeenStore
+pub use Rattle.tall_stored.specs.StoredColumns.{Store}
 
 -- files that may be opened, each so often
 pub record Openings : Type 0 where

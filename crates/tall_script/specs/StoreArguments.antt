@@ -8,7 +8,9 @@ use Rattle.tall_cut.specs.declared.cutter.ReadSize.TheVariants.{Rows, File}
 use Rattle.tall_grammar.specs.Grammar.{are_distinct}
 use Rattle.tall_store.specs.declared.format.Format.{Format}
 use Rattle.tall_store.specs.declared.format.Format.TheVariants.{Int8, Int16, Int32, Int64, Uint8, Uint16, Uint32, Uint64, Double, Text}
-use Rattle.tall_store.specs.Options.{SeenOptions}
+use Rattle.tall_store.specs.declared.options.Property.{Property}
+use Rattle.tall_store.specs.declared.options.Property.TheVariants as property
+use Rattle.tall_store.specs.Options.{SeenOptions, size_of_rows}
 use Rattle.tall_local.specs.Lists.{all_of}
 use Rattle.tall_local.specs.Names.{named, names_of, is_among}
 use Rattle.tall_local.specs.Memory.{Memory, scalar, texts, scalar_in, text_in}
@@ -34,9 +36,9 @@ delimiter_given v = option_and_then delimiter_of (text_of (scalar_in v))
 abbrev pub sizes : List (List ℕ × ReadSize)
 sizes = (codes "file", File) ∷ []
 
--- a whole number, or 'file'
+-- a number of records that a block may have, or 'file'
 abbrev pub size_given : Memory → Option ReadSize
-size_given (scalar (double (Some (pos n)))) = Some (Rows n)
+size_given (scalar (double (Some (pos n)))) = size_of_rows n
 size_given v = choice_of sizes (scalar_in v)
 
 abbrev pub formats : List (List ℕ × Format)
@@ -109,12 +111,7 @@ options_given (files ∷ rest) =
 
 -- ---- properties
 
-pub data Property : Type 0 where
-  read_size : Property
-  selected_variable_names : Property
-  textscan_formats : Property
-
 abbrev pub properties : List (List ℕ × Property)
 properties =
-    (codes "ReadSize", read_size) ∷ (codes "SelectedVariableNames", selected_variable_names)
-    ∷ (codes "TextscanFormats", textscan_formats) ∷ []
+    (codes "ReadSize", property.ReadSize) ∷ (codes "SelectedVariableNames", property.SelectedVariableNames)
+    ∷ (codes "TextscanFormats", property.TextscanFormats) ∷ []

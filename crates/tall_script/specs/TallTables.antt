@@ -1,33 +1,23 @@
 -- The tall table of a datastore: the columns of the variables that are selected, each with its rows or with the first
 -- reading fault. docs/LANGUAGE.md, functions.
 use Rattle.std.specs.Prelude.{ℕ, ◌+◌, List, [], ◌∷◌, slice_get, Option, None, Some, Result, Ok, Err}
-use Rattle.tall_value.specs.Cells.{Seen}
 use Rattle.tall_outside.specs.Shelf.{Files}
-use Rattle.tall_semantics.specs.Faults.{reading}
-use Rattle.tall_semantics.specs.Outcomes.{Outcome, rows, fault}
 use Rattle.tall_semantics.specs.Talls.{Tall, stored_tall}
-use Rattle.tall_store.specs.declared.faults.ReadingFault.{ReadingFault}
 use Rattle.tall_store.specs.Formats.{class_of_format}
-use Rattle.tall_store.specs.Stored.{stored_column}
 use Rattle.tall_store.specs.Stores.{name_at, format_at}
+use Rattle.tall_stored.specs.StoredColumns.{column_outcome}
 use Rattle.tall_local.specs.Arguments.{Argument, value_given}
 use Rattle.tall_local.specs.Lists.{all_of}
 use Rattle.tall_local.specs.Refusals.{Refusal, bad_argument, bad_class}
 use Rattle.tall_script.specs.ScriptValues.{TallValue}
 use Rattle.tall_local.specs.Values.{datastore, tall_table}
 use Rattle.tall_script.specs.States.{Store, State}
-use Rattle.tall_script.specs.ReadingFaults.{kind_of_reading}
-
--- a reading fault has the number and the line of the datastore's call
-abbrev pub stored_outcome : (place : ℕ) → Store → Result (List (ℕ × Seen)) ReadingFault → Outcome
-stored_outcome place d (Ok rs) = rows rs
-stored_outcome place d (Err f) = fault (record { number = d.at.number; row = Some f.row; column = f.column; store = place; cause = reading (kind_of_reading f.kind) f.file; line = d.at.line })
 
 -- the variables at the places of the selection, from one on
 abbrev pub stored_variables : Files → (place : ℕ) → Store → (from : ℕ) → List ℕ → List (List ℕ × Tall)
 stored_variables files place d from [] = []
 stored_variables files place d from (variable ∷ rest) =
-    (name_at d.store variable, stored_tall place from (class_of_format (format_at d.store variable)) (stored_outcome place d (stored_column d.store files from)))
+    (name_at d.store variable, stored_tall place from (class_of_format (format_at d.store variable)) (column_outcome files place d from))
     ∷ stored_variables files place d (from + 1) rest
 
 abbrev pub tall_of_store : Files → (place : ℕ) → Option Store → Result TallValue Refusal

@@ -3,7 +3,7 @@ use Rattle.std.proofs.Common.{ℕ, ◌≡◌, List, length, take, subst, sym, ar
 use Rattle.std.specs.Prelude.{Option, Some, None, IfSome, IfErr, Result, Ok, Err}
 use Rattle.std.proofs.lemmas.List.{length-take, take_all}
 use Rattle.tall_grammar.specs.Refusals as parse
-use Rattle.tall_store.specs.Causes.{Counts}
+use Rattle.tall_outside.specs.ShelfCounts.{Counts}
 use Rattle.tall_session.specs.Evaluation.{IsExplained, SomeAsk}
 use Rattle.tall_session.specs.Tasks.{IsAsked, IsFaultOfBytes, IsOfBytes, IsOfScript, IsReadExplained, seen_read}
 use Rattle.tall_session.specs.declared.script.Task.{Task}

@@ -1,9 +1,9 @@
 -- What an outcome blames, over two calls.
 use Rattle.std.proofs.Common.{ℕ, ◌≤◌, arith}
 use Rattle.tall_outside.specs.Count.{Rose}
-use Rattle.tall_store.specs.declared.faults.ReadingKind.{ReadingKind}
-use Rattle.tall_store.specs.declared.faults.ReadingKind.TheVariants as kind
-use Rattle.tall_store.specs.Causes.{Counts, IsLater}
+use Rattle.tall_value.specs.declared.faults.ReadingKind.{ReadingKind}
+use Rattle.tall_value.specs.declared.faults.ReadingKind.TheVariants as kind
+use Rattle.tall_outside.specs.ShelfCounts.{Counts, IsLater}
 use Rattle.tall_session.specs.Evaluation.{IsExplained, IsFaultExplained, IsMissed}
 use Rattle.tall_session.specs.declared.outcome.Fault as f
 use Rattle.tall_session.specs.declared.outcome.Fault.TheVariants as fault

@@ -2,7 +2,7 @@
 use Rattle.std.proofs.Common.{ℕ, ◌≡◌, ◌≢◌, ◌⊎◌, List, [], inl, inr, subst, sym, refl, rules, take}
 use Rattle.std.specs.Io.KnownBytes.{Appends}
 use Rattle.tall_outside.specs.Count.{Rose}
-use Rattle.tall_store.specs.Causes.{Counts}
+use Rattle.tall_outside.specs.ShelfCounts.{Counts}
 use Rattle.tall_session.specs.Answer.{Answer, IsSettled, Shows, ShowsAll, Written, shown}
 use Rattle.std.specs.Prelude.{Option, Some, None, IfSome}
 use Rattle.tall_outside.specs.Shelf.{Files}

@@ -13,15 +13,16 @@ use Rattle.tall_value.specs.declared.class.IntKind.TheVariants as kind
 use Rattle.tall_value.specs.Classes.{least, greatest}
 use Rattle.tall_value.specs.Cells.{Seen, whole, double, text}
 use Rattle.tall_store.specs.declared.faults.ReadingFault.{ReadingFault}
-use Rattle.tall_store.specs.declared.faults.ReadingKind.{ReadingKind}
-use Rattle.tall_store.specs.declared.faults.ReadingKind.TheVariants.{NoFile, TooManyRows, TooManyFields, BadText}
+use Rattle.tall_value.specs.declared.faults.ReadingKind.{ReadingKind}
+use Rattle.tall_value.specs.declared.faults.ReadingKind.TheVariants.{NoFile, TooManyRows, TooManyFields, BadText}
 use Rattle.tall_store.specs.declared.format.Format.{Format}
 use Rattle.tall_store.specs.declared.format.Format.TheVariants as format
 use Rattle.tall_store.specs.Fields.{field_value, is_missing, number_fault, spelled_double, spelled_integer, utf8_text}
 use Rattle.tall_store.specs.Stores.{SeenStore, format_at}
 use Rattle.tall_store.specs.Records.{DataRecord, numbered_records}
 use Rattle.tall_store.specs.ReadingOrder.{earlier_of, first_reading_fault, precedes}
-use Rattle.tall_store.specs.Stored.{fault_when, record_faults, value_at}
+use Rattle.tall_store.specs.Stored.{record_faults, value_at}
+use Rattle.tall_store.specs.Walk.{fault_when}
 use Rattle.tall_store.specs.Blocks.{Block, first_block_fault}
 use Rattle.tall_store.proofs.Prefixes.{Each, each_append}
 

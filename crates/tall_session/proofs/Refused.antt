@@ -5,15 +5,15 @@ use Rattle.tall_cut.specs.Rows.{Fields, TakesMany}
 use Rattle.tall_store.specs.declared.faults.ColumnsFault.{ColumnsFault}
 use Rattle.tall_store.specs.declared.faults.ColumnsFault.TheVariants.{Reading, Memory}
 use Rattle.tall_store.specs.declared.faults.ReadingFault.{ReadingFault}
-use Rattle.tall_store.specs.declared.faults.ReadingKind.{ReadingKind}
-use Rattle.tall_store.specs.declared.faults.ReadingKind.TheVariants.{NoFile, HeaderDiffers, TooManyRows, TooManyFields, BadField, BadText, NotWhole, Inexact}
+use Rattle.tall_value.specs.declared.faults.ReadingKind.{ReadingKind}
+use Rattle.tall_value.specs.declared.faults.ReadingKind.TheVariants.{NoFile, HeaderDiffers, TooManyRows, TooManyFields, BadField, BadText, NotWhole, Inexact}
 use Rattle.tall_store.specs.Stores.{SeenStore}
 use Rattle.tall_store.specs.Stored.{unless_fault}
 use Rattle.tall_store.specs.Blocks.{Block, first_block_fault}
 use Rattle.tall_session.specs.Data.{rest_outcome, sum_from}
 use Rattle.tall_session.specs.Blocks.{IfReading, RefusedAs}
 use Rattle.tall_session.specs.Evaluation.{Agrees, IsExplained, IsMissed}
-use Rattle.tall_store.specs.Causes.{Counts}
+use Rattle.tall_outside.specs.ShelfCounts.{Counts}
 use Rattle.tall_session.specs.declared.outcome.Outcome.{Outcome}
 use Rattle.tall_session.specs.declared.outcome.Outcome.TheVariants as out
 use Rattle.tall_session.proofs.Blocks.{Follows, agrees_any, agrees_sum, follows_bad}

@@ -15,14 +15,15 @@ use Rattle.tall_value.specs.declared.class.Class.TheVariants.{Int16}
 use Rattle.tall_value.specs.Cells.{Seen}
 use Rattle.tall_value.specs.Columns.{cells, numbered}
 use Rattle.tall_store.specs.declared.faults.ReadingFault.{ReadingFault}
-use Rattle.tall_store.specs.declared.faults.ReadingKind.TheVariants.{HeaderDiffers}
+use Rattle.tall_value.specs.declared.faults.ReadingKind.TheVariants.{HeaderDiffers}
 use Rattle.tall_store.specs.Stores.{SeenStore, format_at, name_at, selected_names}
 use Rattle.tall_store.specs.Formats.{class_of_format}
 use Rattle.tall_store.specs.Choices.{place_of}
 use Rattle.tall_store.specs.Headers.{begins_with, is_same_record}
 use Rattle.tall_store.specs.ReadingOrder.{first_reading_fault}
-use Rattle.tall_store.specs.Records.{all_records, data_in, numbered_records, records_from, records_in}
-use Rattle.tall_store.specs.Stored.{cells_at, fault_when, file_faults, file_faults_from, record_faults, stored_column, unless_fault}
+use Rattle.tall_store.specs.Records.{data_in, numbered_records, records_in}
+use Rattle.tall_store.specs.Walk.{all_records, fault_when, file_faults, records_from}
+use Rattle.tall_store.specs.Stored.{cells_at, file_faults_from, record_faults, stored_column, unless_fault}
 use Rattle.tall_session.specs.FirstScript.{data_name, variable_name}
 use Rattle.tall_session.specs.Blocks.{place_at}
 use Rattle.tall_session.specs.Data.{differs, file_outcome, file_sum, rest_outcome, sum_from, sum_on, sum_outcome}

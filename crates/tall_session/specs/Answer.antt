@@ -2,8 +2,8 @@
 use Rattle.std.specs.Prelude.{List, ℕ, [], ◌++◌, codes, Option, ◌⊎◌, ◌≡◌, take}
 use Rattle.std.specs.Io.KnownBytes.{Appends}
 use Rattle.std.specs.Fmt.{decimal, signed_decimal}
-use Rattle.tall_store.specs.declared.faults.ReadingKind.{ReadingKind}
-use Rattle.tall_store.specs.declared.faults.ReadingKind.TheVariants as kind
+use Rattle.tall_value.specs.declared.faults.ReadingKind.{ReadingKind}
+use Rattle.tall_value.specs.declared.faults.ReadingKind.TheVariants as kind
 use Rattle.tall_session.specs.declared.outcome.Status.{Status}
 use Rattle.tall_session.specs.declared.outcome.Status.TheVariants as status
 use Rattle.tall_session.specs.declared.outcome.Fault.{Fault}

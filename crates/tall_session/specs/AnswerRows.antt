@@ -13,7 +13,7 @@ use Rattle.std.proofs.Math.Utf8.{encode}
 use Rattle.tall_session.specs.declared.outcome.Outcome.TheVariants as outcome
 use Rattle.tall_session.specs.declared.outcome.Fault.TheVariants as fault
 use Rattle.tall_session.specs.declared.outcome.Status.TheVariants as status
-use Rattle.tall_store.specs.declared.faults.ReadingKind.TheVariants as kind
+use Rattle.tall_value.specs.declared.faults.ReadingKind.TheVariants as kind
 
 -- the script under the name s.m, and these bytes under a.csv
 abbrev pub over : List ℕ → Files

@@ -3,7 +3,7 @@ use Rattle.std.specs.Prelude.{◌≡◌, ℕ, get_or, Err}
 use Rattle.tall_store.specs.declared.faults.ColumnsFault.{ColumnsFault}
 use Rattle.tall_store.specs.declared.faults.ColumnsFault.TheVariants.{Reading, Memory}
 use Rattle.tall_store.specs.declared.faults.ReadingFault.{ReadingFault}
-use Rattle.tall_store.specs.declared.faults.ReadingKind.TheVariants as kind
+use Rattle.tall_value.specs.declared.faults.ReadingKind.TheVariants as kind
 use Rattle.tall_session.specs.declared.outcome.Fault.TheVariants as fault
 use Rattle.tall_store.specs.Stores.{SeenStore}
 use Rattle.tall_cut.specs.declared.feed.FeedFault.{FeedFault}

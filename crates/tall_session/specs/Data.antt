@@ -16,7 +16,7 @@ use Rattle.tall_store.specs.declared.format.Format.TheVariants as format
 use Rattle.tall_store.specs.declared.faults.StoreFault.{StoreFault}
 use Rattle.tall_store.specs.declared.faults.StoreFault.TheVariants as store_fault
 use Rattle.tall_store.specs.declared.faults.ReadingFault.{ReadingFault}
-use Rattle.tall_store.specs.declared.faults.ReadingKind.TheVariants as kind
+use Rattle.tall_value.specs.declared.faults.ReadingKind.TheVariants as kind
 use Rattle.tall_store.specs.Headers.{begins_with}
 use Rattle.tall_store.specs.Choices.{place_of}
 use Rattle.tall_store.specs.Options.{SeenOptions}

@@ -3,9 +3,9 @@
 use Rattle.std.specs.Prelude.{List, ℕ, Option, Some, None, [], ◌∷◌, ◌≤◌, ◌<◌, ◌^◌, ◌≡◌, length, IfSome, unwrap_or, Result, Ok, Err}
 use Rattle.tall_outside.specs.Shelf.{Files, file_in}
 use Rattle.tall_outside.specs.Count.{Rose}
-use Rattle.tall_store.specs.Causes.{Counts}
-use Rattle.tall_store.specs.declared.faults.ReadingKind.{ReadingKind}
-use Rattle.tall_store.specs.declared.faults.ReadingKind.TheVariants as kind
+use Rattle.tall_outside.specs.ShelfCounts.{Counts}
+use Rattle.tall_value.specs.declared.faults.ReadingKind.{ReadingKind}
+use Rattle.tall_value.specs.declared.faults.ReadingKind.TheVariants as kind
 use Rattle.tall_grammar.specs.Refusals as parse
 use Rattle.tall_session.specs.FirstScript.{Task, nothing, native_sum, not_built, task_of}
 use Rattle.tall_session.specs.Data.{data_outcome}

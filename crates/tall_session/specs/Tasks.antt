@@ -4,7 +4,7 @@ use Rattle.tall_session.specs.declared.outcome.Fault as f
 use Rattle.tall_session.specs.declared.outcome.Outcome.{Outcome}
 use Rattle.tall_session.specs.declared.outcome.Outcome.TheVariants.{Fault, CannotReadScript, Memory}
 use Rattle.tall_session.specs.declared.outcome.Fault.TheVariants as fault
-use Rattle.tall_store.specs.Causes.{Counts}
+use Rattle.tall_outside.specs.ShelfCounts.{Counts}
 use Rattle.tall_grammar.specs.Refusals as parse
 use Rattle.tall_session.specs.Evaluation.{IsExplained, SomeAsk, asked}
 use Rattle.tall_session.specs.declared.script.Lines.{Lines}

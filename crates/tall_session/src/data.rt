@@ -8,11 +8,12 @@ ghost use Rattle.tall_store.specs.Stores.{format_at};
 ghost use Rattle.tall_cut.specs.Cuts.{cutter_left, cutter_shelf, rows_of};
 ghost use Rattle.tall_cut.specs.Asked.{Asks};
 ghost use Rattle.tall_cut.specs.Feed.{counted};
+ghost use Rattle.tall_outside.specs.OpenedNames.{OpensOnce};
 ghost use Rattle.tall_outside.specs.Shelf.{file_in};
 ghost use Rattle.tall_session.specs.FirstScript.{data_name};
-ghost use Rattle.tall_session.specs.Openings.{OpensOnce};
 ghost use Rattle.tall_session.specs.Data.{differs, file_outcome, file_sum, rest_outcome, sum_from};
-ghost use Rattle.tall_store.specs.Causes.{opening_counts, shelf_counts};
+ghost use Rattle.tall_outside.specs.ShelfCounts.{shelf_counts};
+ghost use Rattle.tall_store.specs.Causes.{opening_counts};
 ghost use Rattle.tall_session.specs.Evaluation.{Agrees, IsExplained, IsOfData, IsSum, Prints, WithinLimit};
 ghost use Rattle.tall_session.specs.Blocks.{IfReading, NotOpenedAs, RefusedAs, place_at};
 
@@ -179,7 +180,7 @@ fn not_opened(line: u32, fault: FeedFault) -> Outcome
 }
 
 /// What the data file of a lent shelf comes to in the datastore; the shelf comes back.
-#[tactic(auto, using(crate::proofs::Openings::asked_once, crate::proofs::Openings::logs_once))]
+#[tactic(auto, using(tall_store::proofs::Asked::asked_once, tall_outside::proofs::NamesOpened::logs_once))]
 pub(crate) fn sum_file<'s, S: Shelf, K: OpenedFile>(
     alloc: Global,
     lent: Lent<'s, S>,

@@ -5,7 +5,8 @@ ghost use Rattle.tall_outside.specs.Shelf.{file_in};
 ghost use Rattle.tall_value.specs.declared.class.Class.TheVariants.{Int16};
 ghost use Rattle.tall_cut.specs.Asked.{size_in};
 ghost use Rattle.tall_cut.specs.Feed.{counted};
-ghost use Rattle.tall_store.specs.Causes.{shelf_counts};
+ghost use Rattle.tall_outside.specs.OpenedNames.{OpensOnce, OpensTwice};
+ghost use Rattle.tall_outside.specs.ShelfCounts.{shelf_counts};
 ghost use Rattle.tall_store.specs.Formats.{class_of_format};
 ghost use Rattle.tall_store.specs.Opening.{opening};
 ghost use Rattle.tall_store.specs.Options.{options_seen};
@@ -15,7 +16,7 @@ ghost use Rattle.tall_session.specs.Data.{data_options, data_outcome, file_outco
 ghost use Rattle.tall_session.specs.Evaluation.{Agrees, ComesTo, IsExplained, IsOfData, IsSum, Prints, ScriptComesTo, SomeAsk, Stands, WithinLimit, command, task_outcome};
 ghost use Rattle.tall_session.specs.FirstScript.{data_name};
 ghost use Rattle.tall_session.specs.Tasks.{lines_seen, seen_task};
-ghost use Rattle.tall_session.specs.Openings.{OpensInTurn, OpensOnce, OpensTwice, RunOpens};
+ghost use Rattle.tall_session.specs.Openings.{OpensInTurn, RunOpens};
 
 use crate::data::sum_file;
 use crate::outcome::{Fault, Outcome};
@@ -50,7 +51,7 @@ fn data_options(alloc: Global) -> Result<Options, AllocError>
 }
 
 /// What the data file of a shelf comes to in the datastore.
-#[tactic(auto, using(crate::proofs::Openings::opens_twice))]
+#[tactic(auto, using(tall_outside::proofs::NamesOpened::opens_twice))]
 fn sum_data<S: Shelf>(
     alloc: Global,
     shelf: &mut S,
@@ -118,7 +119,7 @@ fn evaluate_store<S: Shelf>(
 }
 
 /// What the data of the script come to, over the files of a shelf.
-#[tactic(auto, using(crate::proofs::Openings::opens_one, crate::proofs::Openings::opens_twice, crate::proofs::Openings::store_once, crate::proofs::Causes::explained_later))]
+#[tactic(auto, using(tall_outside::proofs::NamesOpened::opens_one, tall_outside::proofs::NamesOpened::opens_twice, crate::proofs::Causes::explained_later))]
 fn evaluate_data<S: Shelf>(alloc: Global, shelf: &mut S, lines: Lines) -> Outcome
     ensures told { IfSome (S.held shelf.old) (λ files. WithinLimit files → Agrees result (data_outcome files (lines_seen lines))) }
     ensures printed { IfSome (S.held shelf.old) (λ files. Prints result (data_outcome files (lines_seen lines))) }
@@ -138,7 +139,7 @@ fn evaluate_data<S: Shelf>(alloc: Global, shelf: &mut S, lines: Lines) -> Outcom
 }
 
 /// What a task comes to, over the files of a shelf.
-#[tactic(auto, using(crate::proofs::Openings::opens_none, crate::proofs::ScriptTold::data_stands))]
+#[tactic(auto, using(tall_outside::proofs::NamesOpened::opens_none, crate::proofs::ScriptTold::data_stands))]
 fn evaluate_task<S: Shelf>(alloc: Global, shelf: &mut S, task: Task) -> Outcome
     ensures told { IfSome (S.held shelf.old) (λ files. WithinLimit files → Agrees result (task_outcome files (Ok (seen_task task)))) }
     ensures stands { IfSome (S.held shelf.old) (λ files. Stands result (task_outcome files (Ok (seen_task task)))) }
@@ -189,7 +190,7 @@ pub fn command(words: &[String]) -> Option<&str>
 }
 
 /// What the words come to over the files of a shelf.
-#[tactic(auto, using(crate::proofs::Openings::adds_none))]
+#[tactic(auto, using(tall_outside::proofs::NamesOpened::adds_none))]
 pub fn evaluate<S: Shelf>(alloc: Global, words: &[String], shelf: &mut S) -> Outcome
     ensures told { IfSome (S.held shelf.old) (λ files. (due : _) → ComesTo files (map (λ word. string_bytes word) words.now) due → WithinLimit files → Agrees result due) }
     ensures stands { IfSome (S.held shelf.old) (λ files. (due : _) → ComesTo files (map (λ word. string_bytes word) words.now) due → Stands result due) }

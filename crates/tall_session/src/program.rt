@@ -4,7 +4,7 @@ ghost use Rattle.std.specs.Prelude.{◌≡◌, ◌≢◌, ◌<◌, ◌^◌, ◌�
 ghost use Rattle.std.specs.Io.KnownBytes.{Appends};
 ghost use Rattle.tall_outside.specs.Count.{Rose};
 ghost use Rattle.tall_session.specs.Answer.{IsSettled, Shows, ShowsAll, cannot_write, shown};
-ghost use Rattle.tall_store.specs.Causes.{shelf_counts};
+ghost use Rattle.tall_outside.specs.ShelfCounts.{shelf_counts};
 ghost use Rattle.tall_session.specs.Openings.{RunOpens};
 ghost use Rattle.tall_session.specs.Evaluation.{ComesTo, IsAnswer, IsExplained, Stands, WithinLimit, command, script_name};
 

@@ -4,7 +4,7 @@ ghost use Rattle.std.specs.Prelude.{◌≡◌, codes, map, IfErr, IfSome, Err, o
 ghost use Rattle.tall_grammar.specs.Refusals.{Parses, Verdict};
 ghost use Rattle.tall_grammar.specs.Views.{arg_of, args_of, entry_of, program_of, tree_of};
 ghost use Rattle.tall_parse.specs.Parsed.{seen};
-ghost use Rattle.tall_store.specs.Causes.{IsLater, shelf_counts};
+ghost use Rattle.tall_outside.specs.ShelfCounts.{IsLater, shelf_counts};
 ghost use Rattle.tall_session.specs.Evaluation.{asked};
 ghost use Rattle.tall_session.specs.FirstScript.{are_none, are_three, is_one, are_two, assigns, called, data_name, first_value, four_task, gathers, is_call, is_list_of, is_member, is_name, is_text, makes_tall, opens, sums, task_of, variable_name};
 ghost use Rattle.tall_session.specs.Tasks.{IsAsked, IsOfBytes, IsOfScript, IsReadExplained, seen_read, seen_task};

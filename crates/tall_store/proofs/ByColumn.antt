@@ -3,11 +3,12 @@ use Rattle.std.proofs.Common.{ℕ, ◌≡◌, ◌∙◌, ◌^◌, List, [], ◌�
 use Rattle.std.specs.List.{filter_map, flat_map, cons_option}
 use Rattle.std.specs.Result.{result_err}
 use Rattle.tall_store.specs.declared.faults.ReadingFault.{ReadingFault}
-use Rattle.tall_store.specs.declared.faults.ReadingKind.TheVariants.{TooManyRows}
+use Rattle.tall_value.specs.declared.faults.ReadingKind.TheVariants.{TooManyRows}
 use Rattle.tall_store.specs.Stores.{SeenStore}
 use Rattle.tall_store.specs.Records.{DataRecord}
 use Rattle.tall_store.specs.ReadingOrder.{earlier_of, first_reading_fault}
-use Rattle.tall_store.specs.Stored.{fault_when, record_faults, value_at}
+use Rattle.tall_store.specs.Stored.{record_faults, value_at}
+use Rattle.tall_store.specs.Walk.{fault_when}
 use Rattle.tall_store.specs.Reads.{column_faults, first_of_columns, first_width_fault, width_faults}
 use Rattle.tall_store.proofs.ReadingLaws.{earlier_assoc, earlier_comm, earlier_none, first_append}
 use Rattle.tall_store.proofs.Prefixes.{Each}

@@ -15,14 +15,15 @@ use Rattle.tall_cut.specs.declared.cutter.ReadSize.TheVariants.{Rows, File}
 use Rattle.tall_cut.specs.Rows.{Fields}
 use Rattle.tall_value.specs.Cells.{Seen}
 use Rattle.tall_store.specs.declared.faults.ReadingFault.{ReadingFault}
-use Rattle.tall_store.specs.declared.faults.ReadingKind.{ReadingKind}
-use Rattle.tall_store.specs.declared.faults.ReadingKind.TheVariants.{HeaderDiffers, NoFile, TooManyFields, TooManyRows}
+use Rattle.tall_value.specs.declared.faults.ReadingKind.{ReadingKind}
+use Rattle.tall_value.specs.declared.faults.ReadingKind.TheVariants.{HeaderDiffers, NoFile, TooManyFields, TooManyRows}
 use Rattle.tall_store.specs.Stores.{SeenStore, format_at}
 use Rattle.tall_store.specs.Fields.{field_value}
 use Rattle.tall_store.specs.Headers.{begins_with}
-use Rattle.tall_store.specs.Records.{DataRecord, data_in, numbered_records, records_from, records_in}
+use Rattle.tall_store.specs.Records.{DataRecord, data_in, numbered_records, records_in}
+use Rattle.tall_store.specs.Walk.{fault_when, file_faults, records_from}
 use Rattle.tall_store.specs.ReadingOrder.{earlier_of, first_reading_fault, kind_rank}
-use Rattle.tall_store.specs.Stored.{cells_at, fault_when, file_faults, file_faults_from, record_faults, value_at}
+use Rattle.tall_store.specs.Stored.{cells_at, file_faults_from, record_faults, value_at}
 use Rattle.tall_store.specs.Blocks.{Block, CellsJoin, FaultsJoin, IsCutting, SizesCut, blocks_from, blocks_up_to, first_in_blocks, first_met_from, numbered_blocks}
 use Rattle.tall_store.proofs.ReadingLaws.{first_append}
 use Rattle.tall_store.proofs.Prefixes.{Each, IsLater, LaterIn, each_append, each_weaker, first_before}

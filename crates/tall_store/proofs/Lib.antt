@@ -6,10 +6,12 @@ pub mod PartRows
 pub mod TableRows
 pub mod Limits
 pub mod Joins
+pub mod Walks
 pub mod Finding
 pub mod Placing
 pub mod Selections
 pub mod Freeness
 pub mod HeaderNames
 pub mod Openings
+pub mod Asked
 pub mod Told

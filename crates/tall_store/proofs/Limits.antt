@@ -16,14 +16,15 @@ use Rattle.tall_store.specs.declared.faults.ColumnsFault.TheVariants.{Memory, Re
 use Rattle.tall_cut.specs.Rows.{Fields}
 use Rattle.tall_value.specs.Cells.{Seen}
 use Rattle.tall_store.specs.declared.faults.ReadingFault.{ReadingFault}
-use Rattle.tall_store.specs.declared.faults.ReadingKind.{ReadingKind}
-use Rattle.tall_store.specs.declared.faults.ReadingKind.TheVariants.{TooManyFields, TooManyRows}
+use Rattle.tall_value.specs.declared.faults.ReadingKind.{ReadingKind}
+use Rattle.tall_value.specs.declared.faults.ReadingKind.TheVariants.{TooManyFields, TooManyRows}
 use Rattle.tall_store.specs.declared.part.Part.{Part}
 use Rattle.tall_store.specs.Stores.{SeenStore, format_at}
 use Rattle.tall_store.specs.Fields.{field_value}
 use Rattle.tall_store.specs.Records.{DataRecord, numbered_records}
 use Rattle.tall_store.specs.ReadingOrder.{first_reading_fault}
-use Rattle.tall_store.specs.Stored.{fault_when, record_faults, unless_fault, value_at, variables_of}
+use Rattle.tall_store.specs.Stored.{record_faults, unless_fault, value_at, variables_of}
+use Rattle.tall_store.specs.Walk.{fault_when}
 use Rattle.tall_store.specs.Reads.{Answers, first_of_columns, first_width_fault}
 use Rattle.tall_store.specs.Parts.{part_records}
 use Rattle.tall_store.specs.Blocks.{Block, block_table, block_variables, first_block_fault}

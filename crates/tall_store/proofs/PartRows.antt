@@ -8,14 +8,15 @@ use Rattle.tall_cut.specs.Rows.{Fields}
 use Rattle.tall_value.specs.Cells.{Seen}
 use Rattle.tall_store.specs.declared.part.Part.{Part}
 use Rattle.tall_store.specs.declared.faults.ReadingFault.{ReadingFault}
-use Rattle.tall_store.specs.declared.faults.ReadingKind.{ReadingKind}
-use Rattle.tall_store.specs.declared.faults.ReadingKind.TheVariants.{TooManyFields}
+use Rattle.tall_value.specs.declared.faults.ReadingKind.{ReadingKind}
+use Rattle.tall_value.specs.declared.faults.ReadingKind.TheVariants.{TooManyFields}
 use Rattle.tall_store.specs.Stores.{SeenStore, format_at}
 use Rattle.tall_store.specs.declared.format.Format.{Format}
 use Rattle.tall_store.specs.Fields.{field_value}
 use Rattle.tall_store.specs.Records.{DataRecord, numbered_records}
 use Rattle.tall_store.specs.ReadingOrder.{first_reading_fault}
-use Rattle.tall_store.specs.Stored.{cells_at, fault_when, value_at}
+use Rattle.tall_store.specs.Stored.{cells_at, value_at}
+use Rattle.tall_store.specs.Walk.{fault_when}
 use Rattle.tall_store.specs.Reads.{ReadsColumn, column_faults, first_width_fault, width_faults}
 use Rattle.tall_store.specs.Parts.{part_records}
 use Rattle.tall_store.proofs.ByColumn.{as_flat}

@@ -11,8 +11,8 @@ use Rattle.std.proofs.lemmas.Map.Text.{is_eq-slice_cmp}
 use Rattle.std.proofs.lemmas.Slice.Eq.{bytes_eq-Decides}
 use Rattle.std.proofs.lemmas.Bool.{false≢true}
 use Rattle.tall_store.specs.declared.faults.ReadingFault.{ReadingFault}
-use Rattle.tall_store.specs.declared.faults.ReadingKind.{ReadingKind}
-use Rattle.tall_store.specs.declared.faults.ReadingKind.TheVariants.{NoFile, HeaderDiffers, TooManyRows, TooManyFields, BadField, BadText, NotWhole, Inexact}
+use Rattle.tall_value.specs.declared.faults.ReadingKind.{ReadingKind}
+use Rattle.tall_value.specs.declared.faults.ReadingKind.TheVariants.{NoFile, HeaderDiffers, TooManyRows, TooManyFields, BadField, BadText, NotWhole, Inexact}
 use Rattle.tall_store.specs.ReadingOrder.{earlier_of, first_reading_fault, kind_rank, precedes, reading_place}
 
 -- ---- the order

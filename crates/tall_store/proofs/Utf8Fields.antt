@@ -6,7 +6,7 @@ use Rattle.std.proofs.lemmas.List.{drop_more}
 use Rattle.std.proofs.Math.Seq.{drop-length}
 use Rattle.std.specs.Str.{IsUtf8, is_utf8}
 use Rattle.std.proofs.lemmas.Str.{IsUtf8-from_is_utf8, is_utf8-from_IsUtf8}
-use Rattle.tall_store.specs.declared.faults.ReadingKind.TheVariants.{BadText}
+use Rattle.tall_value.specs.declared.faults.ReadingKind.TheVariants.{BadText}
 use Rattle.tall_store.specs.Fields.{utf8_text}
 
 pub text_of_utf8 : (bs : List ℕ) → IsUtf8 bs → utf8_text bs ≡ Ok bs

@@ -7,7 +7,7 @@ use Rattle.tall_outside.specs.Shelf.{Files}
 use Rattle.tall_value.specs.declared.class.Class.TheVariants as class
 use Rattle.tall_value.specs.Cells.{double}
 use Rattle.tall_store.specs.declared.format.Format.TheVariants.{Double}
-use Rattle.tall_store.specs.declared.faults.ReadingKind.TheVariants.{BadField}
+use Rattle.tall_value.specs.declared.faults.ReadingKind.TheVariants.{BadField}
 use Rattle.tall_store.specs.Stores.{SeenStore}
 use Rattle.tall_store.specs.Blocks.{all_blocks, block_table, blocks_up_to, first_met, in_blocks}
 

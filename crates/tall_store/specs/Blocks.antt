@@ -1,18 +1,19 @@
 -- Blocks of a datastore: consecutive records of one file, as many as its ReadSize says, fewer only at the file's end.
 -- docs/LANGUAGE.md, "Datastores". What is stored knows no blocks; the laws at the end join the two.
-use Rattle.std.specs.Prelude.{◌≡◌, ◌<◌, ℕ, zero, suc, ◌+◌, List, [], ◌∷◌, ◌++◌, length, take, drop, Option, None, Result}
+use Rattle.std.specs.Prelude.{◌≡◌, ◌<◌, ◌≤◌, ℕ, zero, suc, ◌+◌, List, [], ◌∷◌, ◌++◌, length, map, take, drop, Option, None, Some, Result, Ok, Err}
 use Rattle.std.specs.List.{flat_map}
 use Rattle.std.specs.Option.{option_or}
-use Rattle.tall_outside.specs.Shelf.{Files, file_in}
+use Rattle.tall_outside.specs.Shelf.{Files}
 use Rattle.tall_cut.specs.declared.cutter.ReadSize.{ReadSize}
 use Rattle.tall_cut.specs.declared.cutter.ReadSize.TheVariants.{Rows, File}
 use Rattle.tall_cut.specs.Rows.{Fields}
 use Rattle.tall_column.specs.Columns.{SeenColumn}
 use Rattle.tall_store.specs.declared.faults.ReadingFault.{ReadingFault}
 use Rattle.tall_store.specs.Stores.{SeenStore}
-use Rattle.tall_store.specs.Records.{all_records, data_in, numbered_records}
+use Rattle.tall_store.specs.Records.{numbered_records}
+use Rattle.tall_store.specs.Walk.{WalkedFile, all_records, walk, walk_from}
 use Rattle.tall_store.specs.ReadingOrder.{first_reading_fault}
-use Rattle.tall_store.specs.Stored.{cells_at, file_faults, first_fault, record_faults, unless_fault, variables_of}
+use Rattle.tall_store.specs.Stored.{cells_at, first_fault, record_faults, unless_fault, variables_of}
 
 -- ---- one block: the place of its file in the list, the row of its first record, and its records
 
@@ -54,16 +55,25 @@ numbered_blocks file row [] = []
 numbered_blocks file row (records ∷ blocks) =
     record { file = file; row = row; records = records } ∷ numbered_blocks file (row + length records) blocks
 
--- the blocks of files, each cut in some way, from a place in the list and a row on
+-- the blocks of a file of the walk, cut in some way
+abbrev pub walked_blocks : (List Fields → List (List Fields)) → WalkedFile → List Block
+walked_blocks cut f = numbered_blocks f.file f.row (cut f.records)
+
+-- the blocks of files, from a place in the list and a row on
 abbrev pub blocks_from : (List Fields → List (List Fields)) → SeenStore → Files → ℕ → ℕ → List (List ℕ) → List Block
-blocks_from cut store files file row [] = []
-blocks_from cut store files file row (name ∷ names) =
-    let found = data_in store (file_in files name) in
-    numbered_blocks file row (cut found) ++ blocks_from cut store files (file + 1) (row + length found) names
+blocks_from cut store files file row names = flat_map (walked_blocks cut) (walk_from store files file row names)
 
 -- all blocks of a datastore, in order
 abbrev pub all_blocks : SeenStore → Files → List Block
-all_blocks store files = blocks_from (in_blocks store.size) store files 0 1 store.files
+all_blocks store files = flat_map (walked_blocks (in_blocks store.size)) (walk store files)
+
+-- what a file of the walk gives one after the other: its own fault, and then each block as a table or its first reading
+-- fault. A map function is called with each table, up to the first fault.
+abbrev pub walked_tables : SeenStore → WalkedFile → List (Result (List (List ℕ × SeenColumn)) ReadingFault)
+walked_tables store f = map (λ fault. Err fault) f.faults ++ map (block_table store) (walked_blocks (in_blocks store.size) f)
+
+abbrev pub block_tables : SeenStore → Files → List (Result (List (List ℕ × SeenColumn)) ReadingFault)
+block_tables store files = flat_map (walked_tables store) (walk store files)
 
 -- ---- the first fault that a reader meets who goes from file to file and from block to block
 
@@ -71,19 +81,30 @@ abbrev pub first_in_blocks : SeenStore → List Block → Option ReadingFault
 first_in_blocks store [] = None
 first_in_blocks store (block ∷ blocks) = option_or (first_block_fault store block) (first_in_blocks store blocks)
 
+abbrev pub first_on_walk : (List Fields → List (List Fields)) → SeenStore → List WalkedFile → Option ReadingFault
+first_on_walk cut store [] = None
+first_on_walk cut store (f ∷ fs) =
+    option_or (first_reading_fault f.faults)
+    (option_or (first_in_blocks store (walked_blocks cut f)) (first_on_walk cut store fs))
+
 abbrev pub first_met_from : (List Fields → List (List Fields)) → SeenStore → Files → ℕ → ℕ → List (List ℕ) → Option ReadingFault
-first_met_from cut store files file row [] = None
-first_met_from cut store files file row (name ∷ names) =
-    let bytes = file_in files name in
-    let found = data_in store bytes in
-    option_or (first_reading_fault (file_faults store bytes file row))
-    (option_or (first_in_blocks store (numbered_blocks file row (cut found)))
-    (first_met_from cut store files (file + 1) (row + length found) names))
+first_met_from cut store files file row names = first_on_walk cut store (walk_from store files file row names)
 
 abbrev pub first_met : (List Fields → List (List Fields)) → SeenStore → Files → Option ReadingFault
-first_met cut store files = first_met_from cut store files 0 1 store.files
+first_met cut store files = first_on_walk cut store (walk store files)
+
+-- the first fault among tables
+abbrev pub first_refused : List (Result (List (List ℕ × SeenColumn)) ReadingFault) → Option ReadingFault
+first_refused [] = None
+first_refused (Ok table ∷ rest) = first_refused rest
+first_refused (Err fault ∷ rest) = Some fault
 
 -- ---- the laws that join blocks and whole files, however each file is cut
+
+-- a ReadSize of one record at least
+abbrev pub HasRows : ReadSize → Type 0
+HasRows (Rows size) = 0 < size
+HasRows File = Unit {0}
 
 -- the records of a file are those of its blocks, one after the other
 abbrev pub IsCutting : (List Fields → List (List Fields)) → Type 0
@@ -100,10 +121,19 @@ CellsJoin = (cut : List Fields → List (List Fields)) → IsCutting cut → (st
     → flat_map (λ block. cells_at store (numbered_records block.file block.row block.records) place) (blocks_from cut store files 0 1 store.files)
     ≡ cells_at store (all_records store files) place
 
--- a ReadSize of one record at least is such a way to cut
-abbrev pub HasRows : ReadSize → Type 0
-HasRows (Rows size) = 0 < size
-HasRows File = Unit {0}
+-- the tables that a map function would get end at the first fault of the datastore, if it has one
+abbrev pub TablesJoin : Type 0
+TablesJoin = (store : SeenStore) (files : Files) → HasRows store.size → first_refused (block_tables store files) ≡ first_fault store files
 
+-- a ReadSize is such a way to cut
 abbrev pub SizesCut : Type 0
 SizesCut = (size : ReadSize) → HasRows size → IsCutting (in_blocks size)
+
+-- each block of a ReadSize of n records has n of them, but the last of a file, which has one at least
+abbrev pub AreOfSize : ℕ → List (List Fields) → Type 0
+AreOfSize size [] = Unit {0}
+AreOfSize size (block ∷ []) = (0 < length block) × (length block ≤ size)
+AreOfSize size (block ∷ next ∷ blocks) = (length block ≡ size) × AreOfSize size (next ∷ blocks)
+
+abbrev pub SizesHold : Type 0
+SizesHold = (size : ℕ) (records : List Fields) → 0 < size → AreOfSize size (in_blocks (Rows size) records)

@@ -5,7 +5,7 @@ use Rattle.std.proofs.Math.Utf8.{encode}
 use Rattle.tall_value.specs.declared.class.IntKind.TheVariants as kind
 use Rattle.tall_value.specs.Cells.{whole, double, text}
 use Rattle.tall_store.specs.declared.format.Format.TheVariants as format
-use Rattle.tall_store.specs.declared.faults.ReadingKind.TheVariants.{BadField, BadText, NotWhole, Inexact}
+use Rattle.tall_value.specs.declared.faults.ReadingKind.TheVariants.{BadField, BadText, NotWhole, Inexact}
 use Rattle.tall_store.specs.Fields.{field_value}
 
 -- the spellings NA and -

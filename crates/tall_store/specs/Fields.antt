@@ -11,8 +11,8 @@ use Rattle.tall_value.specs.declared.class.IntKind.{IntKind}
 use Rattle.tall_value.specs.declared.class.IntKind.TheVariants as kind
 use Rattle.tall_value.specs.Classes.{least, greatest}
 use Rattle.tall_value.specs.Cells.{Seen, whole, double, text}
-use Rattle.tall_store.specs.declared.faults.ReadingKind.{ReadingKind}
-use Rattle.tall_store.specs.declared.faults.ReadingKind.TheVariants.{BadField, BadText, NotWhole, Inexact}
+use Rattle.tall_value.specs.declared.faults.ReadingKind.{ReadingKind}
+use Rattle.tall_value.specs.declared.faults.ReadingKind.TheVariants.{BadField, BadText, NotWhole, Inexact}
 use Rattle.tall_store.specs.declared.format.Format.{Format}
 use Rattle.tall_store.specs.declared.format.Format.TheVariants.{Int8, Int16, Int32, Int64, Uint8, Uint16, Uint32, Uint64, Double, Text}
 

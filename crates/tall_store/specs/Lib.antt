@@ -11,6 +11,7 @@ pub mod Taking
 pub mod Properties
 pub mod Headers
 pub mod Records
+pub mod Walk
 pub mod ReadingOrder
 pub mod Stored
 pub mod Reads

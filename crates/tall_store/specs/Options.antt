@@ -1,6 +1,6 @@
 -- The options of a datastore as plain data, and which are accepted before a file is opened: docs/LANGUAGE.md,
 -- "Datastores".
-use Rattle.std.specs.Prelude.{ℕ, ◌^◌, ◌==◌, ◌&&◌, not, nat_lt, nat_le, Bool, true, false, List, [], ◌∷◌, map, string_bytes, Option, None, Some, option_map}
+use Rattle.std.specs.Prelude.{ℕ, ◌^◌, ◌==◌, ◌&&◌, not, nat_lt, nat_le, Bool, true, false, if◌then◌else◌, List, [], ◌∷◌, map, string_bytes, Option, None, Some, option_map}
 use Rattle.tall_cut.specs.declared.cutter.ReadSize.{ReadSize}
 use Rattle.tall_cut.specs.declared.cutter.ReadSize.TheVariants.{Rows, File}
 use Rattle.tall_store.specs.declared.format.Format.{Format}
@@ -50,6 +50,10 @@ is_delimiter b = nat_lt b 128 && not (b == 34) && not (b == 13) && not (b == 10)
 abbrev pub is_size : ReadSize → Bool
 is_size (Rows n) = nat_le 1 n && nat_lt n (2 ^ 31)
 is_size File = true
+
+-- of a number of records, which may be any
+abbrev pub size_of_rows : ℕ → Option ReadSize
+size_of_rows n = if is_size (Rows n) then Some (Rows n) else None
 
 -- an option that is left out is accepted
 abbrev pub is_absent_or : {A : Type 0} → (A → Bool) → Option A → Bool

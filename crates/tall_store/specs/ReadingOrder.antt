@@ -3,8 +3,8 @@ use Rattle.std.specs.Prelude.{ℕ, Bool, if◌then◌else◌, List, [], ◌∷�
 use Rattle.std.specs.Ordering.{nat_cmp, is_lt}
 use Rattle.std.specs.Cmp.Lexicographic.{slice_cmp}
 use Rattle.tall_store.specs.declared.faults.ReadingFault.{ReadingFault}
-use Rattle.tall_store.specs.declared.faults.ReadingKind.{ReadingKind}
-use Rattle.tall_store.specs.declared.faults.ReadingKind.TheVariants.{NoFile, HeaderDiffers, TooManyRows, TooManyFields, BadField, BadText, NotWhole, Inexact}
+use Rattle.tall_value.specs.declared.faults.ReadingKind.{ReadingKind}
+use Rattle.tall_value.specs.declared.faults.ReadingKind.TheVariants.{NoFile, HeaderDiffers, TooManyRows, TooManyFields, BadField, BadText, NotWhole, Inexact}
 
 abbrev pub kind_rank : ReadingKind → ℕ
 kind_rank NoFile = 0

@@ -6,12 +6,13 @@ use Rattle.tall_column.specs.Columns.{SeenColumn}
 use Rattle.tall_store.specs.declared.faults.ColumnsFault.{ColumnsFault}
 use Rattle.tall_store.specs.declared.faults.ColumnsFault.TheVariants.{Reading, Memory}
 use Rattle.tall_store.specs.declared.faults.ReadingFault.{ReadingFault}
-use Rattle.tall_store.specs.declared.faults.ReadingKind.TheVariants.{TooManyFields}
+use Rattle.tall_value.specs.declared.faults.ReadingKind.TheVariants.{TooManyFields}
 use Rattle.tall_store.specs.Formats.{class_of_format}
 use Rattle.tall_store.specs.Stores.{SeenStore, format_at}
 use Rattle.tall_store.specs.Records.{DataRecord}
 use Rattle.tall_store.specs.ReadingOrder.{earlier_of, first_reading_fault}
-use Rattle.tall_store.specs.Stored.{cells_at, fault_when, value_at}
+use Rattle.tall_store.specs.Stored.{cells_at, value_at}
+use Rattle.tall_store.specs.Walk.{fault_when}
 
 -- of the numbers of fields
 abbrev pub width_faults : SeenStore → DataRecord → List ReadingFault

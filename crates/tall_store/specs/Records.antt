@@ -1,6 +1,5 @@
--- The data records of a datastore over all its files: docs/LANGUAGE.md, "Datastores".
-use Rattle.std.specs.Prelude.{ℕ, ◌+◌, if◌then◌else◌, List, [], ◌∷◌, ◌++◌, length, drop, Option, None, Some}
-use Rattle.tall_outside.specs.Shelf.{Files, file_in}
+-- The data records of a file of a datastore: docs/LANGUAGE.md, "Datastores".
+use Rattle.std.specs.Prelude.{ℕ, ◌+◌, if◌then◌else◌, List, [], ◌∷◌, drop, Option, None, Some}
 use Rattle.tall_cut.specs.Rows.{Fields, file_records}
 use Rattle.tall_store.specs.Stores.{SeenStore}
 
@@ -23,14 +22,3 @@ records_in store (Some bytes) = file_records store.delimiter bytes
 -- without the header
 abbrev pub data_in : SeenStore → Option (List ℕ) → List Fields
 data_in store bytes = if store.header then drop 1 (records_in store bytes) else records_in store bytes
-
--- the data records of files, from a place in the list and a row on
-abbrev pub records_from : SeenStore → Files → ℕ → ℕ → List (List ℕ) → List DataRecord
-records_from store files file row [] = []
-records_from store files file row (name ∷ names) =
-    let found = data_in store (file_in files name) in
-    numbered_records file row found ++ records_from store files (file + 1) (row + length found) names
-
--- all of them
-abbrev pub all_records : SeenStore → Files → List DataRecord
-all_records store files = records_from store files 0 1 store.files

@@ -1,19 +1,18 @@
 -- The stored columns of a datastore over whole files, or its first reading fault: docs/LANGUAGE.md, "Reading faults".
-use Rattle.std.specs.Prelude.{ℕ, ◌+◌, ◌^◌, ◌&&◌, not, nat_le, nat_lt, Bool, true, false, List, [], ◌∷◌, ◌++◌, map, length, get_or, Option, None, Some, Result, Ok, Err}
+use Rattle.std.specs.Prelude.{ℕ, ◌+◌, ◌^◌, nat_le, nat_lt, List, [], ◌++◌, map, length, get_or, Option, None, Some, Result, Ok, Err}
 use Rattle.std.specs.List.{filter_map, flat_map}
 use Rattle.std.specs.Result.{result_map_both, result_ok, result_err}
-use Rattle.tall_outside.specs.Shelf.{Files, file_in}
+use Rattle.tall_outside.specs.Shelf.{Files}
 use Rattle.tall_value.specs.Cells.{Seen}
 use Rattle.tall_value.specs.Columns.{numbered}
 use Rattle.tall_column.specs.Columns.{SeenColumn}
 use Rattle.tall_store.specs.declared.faults.ReadingFault.{ReadingFault}
-use Rattle.tall_store.specs.declared.faults.ReadingKind.{ReadingKind}
-use Rattle.tall_store.specs.declared.faults.ReadingKind.TheVariants.{NoFile, HeaderDiffers, TooManyRows, TooManyFields}
+use Rattle.tall_value.specs.declared.faults.ReadingKind.TheVariants.{TooManyRows, TooManyFields}
 use Rattle.tall_store.specs.Formats.{class_of_format}
 use Rattle.tall_store.specs.Fields.{field_value}
 use Rattle.tall_store.specs.Stores.{SeenStore, format_at, name_at}
-use Rattle.tall_store.specs.Headers.{begins_with}
-use Rattle.tall_store.specs.Records.{DataRecord, all_records, data_in, records_in}
+use Rattle.tall_store.specs.Records.{DataRecord}
+use Rattle.tall_store.specs.Walk.{all_records, fault_when, walk, walk_from}
 use Rattle.tall_store.specs.ReadingOrder.{first_reading_fault}
 
 -- ---- values
@@ -30,11 +29,6 @@ cells_at store records place = filter_map (λ r. result_ok (value_at store place
 
 -- ---- faults
 
--- a fault of no field
-abbrev pub fault_when : Bool → ReadingKind → ℕ → ℕ → List ReadingFault
-fault_when false kind file row = []
-fault_when true kind file row = record { kind = kind; file = file; row = row; column = 0 } ∷ []
-
 -- of a record: its row is below 2^40, it has no more fields than the file has variables, and each selected field has a
 -- value
 abbrev pub record_faults : SeenStore → DataRecord → List ReadingFault
@@ -43,22 +37,13 @@ record_faults store r =
     ++ (fault_when (nat_lt (length store.names) (length r.fields)) TooManyFields r.file r.row
     ++ filter_map (λ place. result_err (value_at store place r)) store.selected)
 
--- of a file itself, at the row that would come next: it is there, and its header is that of the first file
-abbrev pub file_faults : SeenStore → Option (List ℕ) → ℕ → ℕ → List ReadingFault
-file_faults store None file row = fault_when true NoFile file row
-file_faults store (Some bytes) file row =
-    fault_when (store.header && not (begins_with store.first (records_in store (Some bytes)))) HeaderDiffers file row
-
--- of files, from a place in the list and a row on
+-- of files themselves, from a place in the list and a row on
 abbrev pub file_faults_from : SeenStore → Files → ℕ → ℕ → List (List ℕ) → List ReadingFault
-file_faults_from store files file row [] = []
-file_faults_from store files file row (name ∷ names) =
-    file_faults store (file_in files name) file row
-    ++ file_faults_from store files (file + 1) (row + length (data_in store (file_in files name))) names
+file_faults_from store files file row names = flat_map (λ f. f.faults) (walk_from store files file row names)
 
 -- all faults of a datastore
 abbrev pub all_faults : SeenStore → Files → List ReadingFault
-all_faults store files = file_faults_from store files 0 1 store.files ++ flat_map (record_faults store) (all_records store files)
+all_faults store files = flat_map (λ f. f.faults) (walk store files) ++ flat_map (record_faults store) (all_records store files)
 
 -- the first of them
 abbrev pub first_fault : SeenStore → Files → Option ReadingFault

@@ -8,8 +8,8 @@ use Rattle.tall_value.specs.declared.class.IntKind.TheVariants as kind
 use Rattle.tall_value.specs.Cells.{whole, double}
 use Rattle.tall_store.specs.declared.format.Format.TheVariants.{Int8, Double}
 use Rattle.tall_store.specs.declared.faults.ReadingFault.{ReadingFault}
-use Rattle.tall_store.specs.declared.faults.ReadingKind.{ReadingKind}
-use Rattle.tall_store.specs.declared.faults.ReadingKind.TheVariants.{NoFile, HeaderDiffers, TooManyRows, TooManyFields, BadField, NotWhole}
+use Rattle.tall_value.specs.declared.faults.ReadingKind.{ReadingKind}
+use Rattle.tall_value.specs.declared.faults.ReadingKind.TheVariants.{NoFile, HeaderDiffers, TooManyRows, TooManyFields, BadField, NotWhole}
 use Rattle.tall_store.specs.Stores.{SeenStore}
 use Rattle.tall_store.specs.ReadingOrder.{first_reading_fault}
 use Rattle.tall_store.specs.Stored.{first_fault, record_faults, stored_column, stored_table}

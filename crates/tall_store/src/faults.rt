@@ -1,5 +1,7 @@
 //! Why there is no datastore, and why there are no columns.
 
+pub use tall_value::ReadingKind;
+
 /// Why a datastore could not be made.
 #[derive(Clone, Copy, Debug, PartialEq, Eq)]
 pub enum StoreFault {
@@ -15,27 +17,6 @@ pub enum StoreFault {
     NoHeader,
     /// Memory was wanting.
     Memory,
-}
-
-/// What is wrong with a file, a record or a field, in the order in which faults at one place come.
-#[derive(Clone, Copy, Debug, PartialEq, Eq)]
-pub enum ReadingKind {
-    /// A file isn't there.
-    NoFile,
-    /// The first record of a file isn't that of the first file.
-    HeaderDiffers,
-    /// The row is the one numbered 2^40.
-    TooManyRows,
-    /// The record has more fields than there are variables.
-    TooManyFields,
-    /// The field is neither a number nor missing.
-    BadField,
-    /// The field of a text isn't UTF-8.
-    BadText,
-    /// The number of a double isn't whole.
-    NotWhole,
-    /// The number of a double is above 2^53 in magnitude.
-    Inexact,
 }
 
 /// A fault of the data of a datastore.

@@ -25,5 +25,5 @@ mod values;
 pub use faults::{ColumnsFault, ReadingFault, ReadingKind, StoreFault};
 pub use format::Format;
 pub use laws::blocks_make_the_whole;
-pub use options::Options;
+pub use options::{OptionName, Options, Property};
 pub use store::Datastore;

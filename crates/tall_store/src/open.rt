@@ -2,14 +2,16 @@
 ghost use Rattle.std.specs.Prelude.{◌≡◌, ◌≢◌, ◌<◌, ◌≤◌, ◌^◌, Err, IfErr, IfSome, Some, false, length, option_map, true};
 ghost use Rattle.std.specs.Result.{result_map_both};
 ghost use Rattle.csv.specs.Records.{fields_of};
+ghost use Rattle.tall_outside.specs.OpenedNames.{OpensOnce};
 ghost use Rattle.tall_outside.specs.Shelf.{file_in};
+ghost use Rattle.tall_outside.specs.ShelfCounts.{IsLater, shelf_counts};
 ghost use Rattle.tall_cut.specs.Asked.{Asks};
 ghost use Rattle.tall_cut.specs.Cuts.{cutter_left, cutter_shelf};
 ghost use Rattle.tall_store.specs.Options.{is_accepted, options_seen};
 ghost use Rattle.tall_store.specs.Opening.{IsWithin, Opens, first_name, opened_file, opened_records, opening};
 ghost use Rattle.tall_store.specs.Chosen.{chosen_seen};
 ghost use Rattle.tall_store.specs.Taking.{TakesNext};
-ghost use Rattle.tall_store.specs.Causes.{IsExplained, IsLater, OpensOnce, RefusesUnopened, opening_counts, shelf_counts};
+ghost use Rattle.tall_store.specs.Causes.{IsExplained, RefusesUnopened, opening_counts};
 
 use crate::faults::StoreFault;
 use crate::opening::{Chosen, is_accepted, keep, open_first};
@@ -94,6 +96,7 @@ fn open_left<'s, S: Shelf, K: OpenedFile>(
 }
 
 // The datastore of the first file of a lent shelf; the shelf comes back.
+#[tactic(auto, using(crate::proofs::Asked::asked_once))]
 fn open_file<'s, S: Shelf, K: OpenedFile>(
     alloc: Global,
     lent: Lent<'s, S>,
@@ -109,7 +112,7 @@ fn open_file<'s, S: Shelf, K: OpenedFile>(
     ensures within { IfSome K.held (λ files. IsWithin files (chosen_seen chosen) → opened.new ≢ Err StoreFault.TooLarge) }
     ensures explained { IsExplained opened.new (opening_counts K.OpenedFile) (shelf_counts S.Shelf result.shelf.now) }
     ensures later { IsLater (opening_counts K.OpenedFile) (shelf_counts S.Shelf result.shelf.now) }
-    ensures once { OpensOnce (S.opened lent.entry.shelf.now) (S.opened result.shelf.now) (first_name chosen.files.items) }
+    ensures once { OpensOnce (first_name chosen.files.items) (S.opened lent.entry.shelf.now) (S.opened result.shelf.now) }
 {
     match open_feed::<S, K>(lent, chosen.files[0].as_str(), FILE_LIMIT) {
         Ok(feed) => {
@@ -142,7 +145,7 @@ fn open_chosen<S: Shelf>(
     ensures held { S.held shelf.new ≡ S.held shelf.old }
     ensures explained { IsExplained result (shelf_counts S.Shelf shelf.old) (shelf_counts S.Shelf shelf.new) }
     ensures later { IsLater (shelf_counts S.Shelf shelf.old) (shelf_counts S.Shelf shelf.new) }
-    ensures once { OpensOnce (S.opened shelf.old) (S.opened shelf.new) (first_name chosen.files.items) }
+    ensures once { OpensOnce (first_name chosen.files.items) (S.opened shelf.old) (S.opened shelf.new) }
 {
     let mut opened = Err(StoreFault::Memory);
     let _lent = open_file::<S, Brand>(alloc, Lent { shelf }, chosen, &mut opened);
@@ -161,6 +164,7 @@ impl Datastore {
     /// - `NoFile` where the first file isn't there.
     /// - `NoHeader` where the first file has no record, or a field of its header isn't UTF-8.
     /// - `Failed` where the shelf failed, `TooLarge` where more than 2^50 bytes came, `Memory` for want of memory.
+    #[tactic(auto, using(tall_outside::proofs::NamesOpened::none_once))]
     pub fn open<S: Shelf>(
         alloc: Global,
         shelf: &mut S,
@@ -173,7 +177,7 @@ impl Datastore {
         ensures explained { IsExplained result (shelf_counts S.Shelf shelf.old) (shelf_counts S.Shelf shelf.new) }
         ensures later { IsLater (shelf_counts S.Shelf shelf.old) (shelf_counts S.Shelf shelf.new) }
         ensures refused { is_accepted (options_seen options) ≡ false → RefusesUnopened result × (shelf.new ≡ shelf.old) }
-        ensures once { OpensOnce (S.opened shelf.old) (S.opened shelf.new) (first_name (options_seen options).files) }
+        ensures once { OpensOnce (first_name (options_seen options).files) (S.opened shelf.old) (S.opened shelf.new) }
     {
         let chosen = match keep(alloc, options) {
             Ok(chosen) => chosen,

@@ -3,6 +3,34 @@
 use crate::format::Format;
 use tall_cut::ReadSize;
 
+/// An option of `tabularTextDatastore` (MathWorks, tabularTextDatastore).
+#[derive(Clone, Copy, Debug, PartialEq, Eq)]
+pub enum OptionName {
+    /// The byte between two fields.
+    Delimiter,
+    /// How many records a block has.
+    ReadSize,
+    /// The spellings that are missing values of a number.
+    TreatAsMissing,
+    /// The variables that are read.
+    SelectedVariableNames,
+    /// The formats of all variables of the file.
+    TextscanFormats,
+    /// Whether the first record of each file is its header.
+    ReadVariableNames,
+}
+
+/// A property of a datastore that a script may change (MathWorks, TabularTextDatastore).
+#[derive(Clone, Copy, Debug, PartialEq, Eq)]
+pub enum Property {
+    /// How many records a block has.
+    ReadSize,
+    /// The variables that are read.
+    SelectedVariableNames,
+    /// The formats of all variables of the file.
+    TextscanFormats,
+}
+
 /// What a datastore is made of (MathWorks, tabularTextDatastore).
 #[derive(Drop)]
 pub struct Options {

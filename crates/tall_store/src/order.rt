@@ -4,21 +4,19 @@ ghost use Rattle.tall_store.specs.ReadingOrder.{earlier_of, kind_rank, precedes,
 
 use crate::faults::{ReadingFault, ReadingKind};
 
-impl ReadingKind {
-    // The rank of the kind among faults at one place.
-    fn rank(self) -> u64
-        ensures { result ≡ kind_rank self }
-    {
-        match self {
-            ReadingKind::NoFile => 0,
-            ReadingKind::HeaderDiffers => 1,
-            ReadingKind::TooManyRows => 2,
-            ReadingKind::TooManyFields => 3,
-            ReadingKind::BadField => 4,
-            ReadingKind::BadText => 5,
-            ReadingKind::NotWhole => 6,
-            ReadingKind::Inexact => 7,
-        }
+// The rank of a kind among faults at one place.
+fn rank(kind: ReadingKind) -> u64
+    ensures { result ≡ kind_rank kind }
+{
+    match kind {
+        ReadingKind::NoFile => 0,
+        ReadingKind::HeaderDiffers => 1,
+        ReadingKind::TooManyRows => 2,
+        ReadingKind::TooManyFields => 3,
+        ReadingKind::BadField => 4,
+        ReadingKind::BadText => 5,
+        ReadingKind::NotWhole => 6,
+        ReadingKind::Inexact => 7,
     }
 }
 
@@ -31,7 +29,7 @@ impl ReadingFault {
             self.row,
             self.column as u64,
             self.file as u64,
-            self.kind.rank(),
+            rank(self.kind),
         ]
     }
 

@@ -3,7 +3,7 @@
 ghost use Rattle.std.specs.Prelude.{◌<◌, ◌^◌, [], get_or, length};
 ghost use Rattle.tall_cut.specs.Asked.{Asks};
 
-use crate::cases::{FAULTS, OPENINGS, REFUSED, VALUES};
+use crate::cases::CALLS;
 use crate::{ColumnsFault, Datastore, Format, Options, ReadingFault, StoreFault};
 use std::alloc::{AllocError, Global};
 use std::fmt::Write;
@@ -30,20 +30,6 @@ fn strings(alloc: Global, list: &str) -> Result<Vec<String>, AllocError> {
 fn format_of(text: &str) -> Format {
     if text == "d8" {
         Format::Int8
-    } else if text == "d16" {
-        Format::Int16
-    } else if text == "d32" {
-        Format::Int32
-    } else if text == "d64" {
-        Format::Int64
-    } else if text == "u8" {
-        Format::Uint8
-    } else if text == "u16" {
-        Format::Uint16
-    } else if text == "u32" {
-        Format::Uint32
-    } else if text == "u64" {
-        Format::Uint64
     } else if text == "f" {
         Format::Double
     } else {
@@ -64,23 +50,15 @@ fn formats_of(alloc: Global, list: &str) -> Result<Vec<Format>, AllocError> {
 
 /// Sets an option.
 fn set(alloc: Global, options: &mut Options, name: &str, value: &str) -> Result<(), AllocError> {
-    if name == "files" {
-        options.files = strings(alloc, value)?;
-    } else if name == "delimiter" {
-        options.delimiter = value.parse::<u8>().unwrap_or(0);
-    } else if name == "size" {
+    if name == "size" {
         options.size = match value.parse::<u32>() {
             Ok(rows) => ReadSize::Rows(rows),
             Err(_) => ReadSize::File,
         };
-    } else if name == "missing" {
-        options.missing = strings(alloc, value)?;
     } else if name == "select" {
         options.selected = Some(strings(alloc, value)?);
-    } else if name == "formats" {
-        options.formats = Some(formats_of(alloc, value)?);
     } else {
-        options.header = false;
+        options.formats = Some(formats_of(alloc, value)?);
     }
     Ok(())
 }
@@ -251,7 +229,6 @@ fn write_store(
     alloc: Global,
     shelf: &mut MemShelf,
     opened: Result<Datastore, StoreFault>,
-    first_row: u64,
     text: &mut String,
 ) -> Result<(), AllocError> {
     let store = match opened {
@@ -270,7 +247,7 @@ fn write_store(
         }
     }
     writeln!(text)?;
-    let mut row = first_row;
+    let mut row = 1;
     for file in 0..store.file_count() {
         write_rows_of(alloc, shelf, &store, file, &mut row, text);
     }
@@ -298,23 +275,12 @@ fn text_of(
     files: &[(&str, &[u8])],
     plan: &str,
 ) -> Result<String, AllocError> {
-    text_from(rt, alloc, files, plan, 1)
-}
-
-/// The same where the first row has another number.
-fn text_from(
-    rt: &impl Abort,
-    alloc: Global,
-    files: &[(&str, &[u8])],
-    plan: &str,
-    first_row: u64,
-) -> Result<String, AllocError> {
     let mut text = String::new(alloc);
     let mut shelf = shelf_of(rt, alloc, files)?;
     let options = options_of(alloc, plan)?;
     if options.files.len() < 1 << 20 {
         let opened = Datastore::open(alloc, &mut shelf, options);
-        write_store(alloc, &mut shelf, opened, first_row, &mut text)?;
+        write_store(alloc, &mut shelf, opened, &mut text)?;
     }
     Ok(text)
 }
@@ -333,20 +299,9 @@ fn all_give(
 }
 
 #[test]
-fn fields_have_their_values(rt: HostRuntime) -> Result<(), Fail> {
-    all_give(&rt, rt.alloc(), &VALUES)?;
+fn small_files_are_read(rt: HostRuntime) -> Result<(), Fail> {
+    all_give(&rt, rt.alloc(), &CALLS)?;
     Ok(())
-}
-
-#[test]
-fn openings_find_names_and_formats(rt: HostRuntime) -> Result<(), Fail> {
-    all_give(&rt, rt.alloc(), &OPENINGS)?;
-    Ok(())
-}
-
-/// Whether an answer is the refusal.
-fn is_refused(answer: &Result<Datastore, StoreFault>) -> bool {
-    matches!(answer, Err(StoreFault::BadArgument))
 }
 
 /// The datastore of a plan over a shelf.
@@ -359,94 +314,6 @@ fn open_plan(
     let options = options_of(alloc, plan)?;
     assert!(rt; options.files.len() < 1 << 20);
     Ok(Datastore::open(alloc, shelf, options))
-}
-
-/// A plan is refused, and no file is opened.
-fn refuses(rt: &impl Abort, alloc: Global, plan: &str) -> Result<(), AllocError> {
-    let mut shelf = shelf_of(rt, alloc, &[("a.csv", b"x\n"), ("empty.csv", b"")])?;
-    let opened = open_plan(rt, alloc, &mut shelf, plan)?;
-    assert!(rt; is_refused(&opened), "{plan}");
-    assert_eq!(rt; (shelf.opens("a.csv"), shelf.opens("none.csv")), (0, 0));
-    Ok(())
-}
-
-#[test]
-fn options_are_refused_before_a_file_is_opened(rt: HostRuntime) -> Result<(), Fail> {
-    for plan in &REFUSED {
-        refuses(&rt, rt.alloc(), plan)?;
-    }
-    Ok(())
-}
-
-/// Two files give text with this end, in blocks of each size.
-fn ends_with(
-    rt: &impl Abort,
-    alloc: Global,
-    files: &[(&str, &[u8])],
-    plan: &str,
-    wanted: &str,
-) -> Result<(), AllocError> {
-    for size in &["1", "2", "file"] {
-        let plan = format!(in alloc; "files a.csv,b.csv|size {size}|{plan}")?;
-        let text = text_of(rt, alloc, files, plan.as_str())?;
-        assert!(rt;
-            text.as_str().ends_with(wanted),
-            "{plan}: {text} and not {wanted}"
-        );
-    }
-    Ok(())
-}
-
-/// Each two files give text with their end.
-fn all_end_with(
-    rt: &impl Abort,
-    alloc: Global,
-    rows: &[(&[u8], &[u8], &str, &str)],
-) -> Result<(), AllocError> {
-    for row in rows {
-        ends_with(
-            rt,
-            alloc,
-            &[("a.csv", row.0), ("b.csv", row.1)],
-            row.2,
-            row.3,
-        )?;
-    }
-    Ok(())
-}
-
-#[test]
-fn the_first_fault_is_the_same_for_each_size(rt: HostRuntime) -> Result<(), Fail> {
-    all_end_with(&rt, rt.alloc(), &FAULTS)?;
-    let absent: &[(&str, &[u8])] = &[("a.csv", b"x,y\n1,2\n")];
-    ends_with(&rt, rt.alloc(), absent, "", "NoFile at file 1 row 2\n")?;
-    Ok(())
-}
-
-/// A file whose first row has this number gives text with this end.
-fn ends_from(
-    rt: &impl Abort,
-    alloc: Global,
-    bytes: &[u8],
-    first_row: u64,
-    wanted: &str,
-) -> Result<(), AllocError> {
-    let text = text_from(rt, alloc, &[("a.csv", bytes)], "formats f", first_row)?;
-    assert!(rt; text.as_str().ends_with(wanted), "{text} and not {wanted}");
-    Ok(())
-}
-
-#[test]
-fn the_row_after_the_last_is_refused(rt: HostRuntime) -> Result<(), Fail> {
-    let last = (1 << 40) - 1;
-    let limit = "TooManyRows at file 0 row 1099511627776 column 0\n";
-    ends_from(&rt, rt.alloc(), b"x\n1\n", last, "x:Double \n 1\n")?;
-    // The fault comes before all faults of its row, and after those of rows before.
-    ends_from(&rt, rt.alloc(), b"x\n1\n?,?\n", last, limit)?;
-    ends_from(&rt, rt.alloc(), b"x\n?\n", last + 1, limit)?;
-    let before = "BadField at file 0 row 1099511627775 column 1\n";
-    ends_from(&rt, rt.alloc(), b"x\n?\n1\n", last, before)?;
-    Ok(())
 }
 
 /// A datastore of the variables x and y.
@@ -464,18 +331,6 @@ fn changed(answer: Result<Datastore, StoreFault>) -> Result<Datastore, AllocErro
         Ok(store) => Ok(store),
         Err(_) => Err(AllocError),
     }
-}
-
-/// The names of a list are refused as a selection.
-fn refuses_selection(
-    rt: &impl Abort,
-    alloc: Global,
-    store: &Datastore,
-    names: &str,
-) -> Result<(), AllocError> {
-    let names = strings(alloc, names)?;
-    assert!(rt; is_refused(&store.with_selected(names.as_slice())));
-    Ok(())
 }
 
 /// The place of a name in the selection, as a number that is -1 where there is none.
@@ -498,59 +353,12 @@ fn is_y_alone(store: &Datastore) -> bool {
 }
 
 #[test]
-fn a_selection_keeps_what_it_names(rt: HostRuntime) -> Result<(), Fail> {
-    let store = xy(&rt, rt.alloc())?;
-    assert!(rt; place(&store, "y") == 1 && place(&store, "z") == -1);
-    let selected = y_alone(rt.alloc(), &store)?;
-    assert!(rt; is_y_alone(&selected));
-    Ok(())
-}
-
-#[test]
 fn a_change_keeps_the_rest(rt: HostRuntime) -> Result<(), Fail> {
     let selected = y_alone(rt.alloc(), &xy(&rt, rt.alloc())?)?;
     let sized = changed(selected.with_size(ReadSize::File))?;
     assert!(rt; is_y_alone(&sized) && sized.size() == ReadSize::File);
     let formatted = changed(sized.with_formats(&[Format::Text, Format::Uint8]))?;
     assert!(rt; formatted.selected_count() > 0 && formatted.class_at(0) == Class::Uint8);
-    Ok(())
-}
-
-#[test]
-fn properties_are_refused(rt: HostRuntime) -> Result<(), Fail> {
-    let store = xy(&rt, rt.alloc())?;
-    assert!(rt; is_refused(&store.with_size(ReadSize::Rows(0))));
-    assert!(rt; is_refused(&store.with_size(ReadSize::Rows(1 << 31))));
-    assert!(rt; is_refused(&store.with_formats(&[Format::Text])));
-    for names in &["", "z", "y,y", "x,z"] {
-        refuses_selection(&rt, rt.alloc(), &store, names)?;
-    }
-    Ok(())
-}
-
-/// Whether a file of so many commas and these bytes is refused with this fault.
-fn is_refused_with(
-    rt: &impl Abort,
-    alloc: Global,
-    last: &[u8],
-    wanted: StoreFault,
-) -> Result<bool, AllocError> {
-    let mut bytes = Vec::new(alloc);
-    for _comma in 0..(1u32 << 20) - 1 {
-        bytes.push(b',')?;
-    }
-    bytes.extend_from_slice(last)?;
-    let mut shelf = shelf_of(rt, alloc, &[("a.csv", bytes.as_slice())])?;
-    match open_plan(rt, alloc, &mut shelf, "")? {
-        Ok(_) => Ok(false),
-        Err(fault) => Ok(fault == wanted),
-    }
-}
-
-#[test]
-fn a_first_record_of_too_many_fields_is_refused(rt: HostRuntime) -> Result<(), Fail> {
-    assert!(rt; is_refused_with(&rt, rt.alloc(), b"", StoreFault::BadArgument)?);
-    assert!(rt; is_refused_with(&rt, rt.alloc(), b"\xFF", StoreFault::NoHeader)?);
     Ok(())
 }
 

@@ -5,12 +5,12 @@ use Rattle.tall_cut.specs.Feed.{counted}
 use Rattle.tall_store.specs.Opening.{opening}
 use Rattle.tall_session.specs.Data.{data_options, store_outcome}
 use Rattle.tall_session.specs.Evaluation.{Agrees, Prints, WithinLimit}
-use Rattle.tall_store.specs.Causes as causes
+use Rattle.tall_outside.specs.OpenedNames.{OpensOnce}
 use Rattle.tall_store.specs.Opening.{first_name}
 use Rattle.tall_store.specs.Options.{SeenOptions, options_seen}
 use Rattle.tall_session.specs.FirstScript.{data_name}
 use Rattle.tall_session.specs.Tasks.{lines_seen}
-use Rattle.tall_session.proofs.Openings.{opens_twice, store_once}
+use Rattle.tall_outside.proofs.NamesOpened.{opens_twice}
 use Rattle.tall_session.proofs.StoreTold.{data_printed, data_told}
 use Rattle.tall_session.proofs.evaluate.evaluate_data.Goals as goal
 
@@ -27,7 +27,6 @@ returns-in-Ok-open-clause-printed g c =
 
 pub returns-in-Ok-open-clause-opens : goal.returns-in-Ok-open-clause-opens
 returns-in-Ok-open-clause-opens g c =
-    let once : causes.OpensOnce (g.S.Shelf.opened c.args.shelf.now) (g.S.Shelf.opened c.open.new.shelf) data_name
-    = subst (λ (o : SeenOptions). causes.OpensOnce (g.S.Shelf.opened c.args.shelf.now) (g.S.Shelf.opened c.open.new.shelf) (first_name o.files)) c.in-Ok.ensures c.in-Ok-open.ensures.once in
-    opens_twice (g.S.Shelf.opened c.args.shelf.now) (g.S.Shelf.opened c.open.new.shelf) _ data_name
-    (store_once (g.S.Shelf.opened c.args.shelf.now) (g.S.Shelf.opened c.open.new.shelf) data_name once) c.evaluate_store.ensures.opens
+    let once : OpensOnce data_name (g.S.Shelf.opened c.args.shelf.now) (g.S.Shelf.opened c.open.new.shelf)
+    = subst (λ (o : SeenOptions). OpensOnce (first_name o.files) (g.S.Shelf.opened c.args.shelf.now) (g.S.Shelf.opened c.open.new.shelf)) c.in-Ok.ensures c.in-Ok-open.ensures.once in
+    opens_twice (g.S.Shelf.opened c.args.shelf.now) (g.S.Shelf.opened c.open.new.shelf) _ data_name once c.evaluate_store.ensures.opens

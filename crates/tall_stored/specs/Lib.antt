@@ -1,0 +1,2 @@
+pub mod StoredColumns
+pub mod StoredRows
