@@ -1,5 +1,5 @@
 -- Loops that count turns up, beside readers that count them down; signs as operators; names in a set.
-use Rattle.std.proofs.Common.{◌≡◌, refl, ℕ, suc, ◌+◌, ◌-◌, ◌<◌, ap, ◌∙◌, sym, arith, List, [], ◌∷◌, Option, Some, None, ◌||◌, length, take, map, String, string_bytes, Ok, Err}
+use Rattle.std.proofs.Common.{◌≡◌, refl, ℕ, suc, ◌+◌, ◌-◌, ◌<◌, ◌≤◌, ap, ◌∙◌, sym, arith, List, [], ◌∷◌, Option, Some, None, ◌||◌, length, take, map, String, string_bytes, Ok, Err}
 use Rattle.std.specs.List.{list_any}
 use Rattle.std.specs.BTreeMap.{is_at}
 use Rattle.std.specs.Cmp.Lexicographic.{slice_cmp}
@@ -7,7 +7,8 @@ use Rattle.std.specs.Ordering.{nat_cmp}
 use Rattle.std.proofs.lemmas.List.{map-append}
 use Rattle.std.proofs.lemmas.Map.Text.{is_eq-slice_cmp}
 use Rattle.tall_grammar.specs.Lexemes.{Lexeme, is_text, all_but_last}
-use Rattle.tall_grammar.specs.Readers.{front_as, operator_of, text_if}
+use Rattle.tall_grammar.specs.declared.faults.Fault.TheVariants.{OutOfTurns}
+use Rattle.tall_grammar.specs.Readers.{Outcome, front_as, operator_of, text_if}
 use Rattle.tall_expr.specs.Gives.{is_sign_token}
 use Rattle.tall_grammar.specs.Kept.{Flagged, with_it, and_last}
 
@@ -49,3 +50,7 @@ among text (k ∷ ks) =
     let e = is_eq-slice_cmp text (string_bytes k) in
     let r = among text ks in
     ap (λ b. b || list_any (is_at (λ k. slice_cmp nat_cmp text (string_bytes k))) ks) e ∙ ap (λ b. is_text text (string_bytes k) || b) r
+
+-- a reader whose turns have run out
+pub run_out : {A : Type 0} {x : Outcome A} (f : ℕ → Outcome A) (n at : ℕ) → n ≤ at → f 0 ≡ Err OutOfTurns → x ≡ f (n - at) → x ≡ Err OutOfTurns
+run_out f n at past none e = let over : n - at ≡ 0 = omega (arith, past) in e ∙ ap f over ∙ none

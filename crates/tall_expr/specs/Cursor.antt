@@ -1,6 +1,6 @@
 -- What a cursor shows, and what it keeps.
 use Rattle.std.specs.List.{AllByRecursion}
-use Rattle.tall_expr.specs.declared.cursor.Tokens.TheInside.{Inside}
+use Rattle.tall_expr.specs.declared.cursor.Cursor.TheInside.{Inside}
 use Rattle.tall_grammar.specs.Lexemes.{lexemes_of}
 use Rattle.tall_grammar.specs.Readers.{Input, input}
 use Rattle.tall_expr.specs.Gives.{IsSlice}

@@ -22,13 +22,13 @@ use tall_lex::{Token, TokenKind};
 /// The tokens of a script that are left, and the number of the next expression. What can't take the first token answers
 /// `Fault::Stop`, with the number of tokens left.
 #[derive(Drop)]
-pub struct Tokens<'a> {
+pub struct Cursor<'a> {
     script: &'a [u8],
     rest: &'a [Token],
     next: u32,
 }
 
-impl<'a> Model for Tokens<'a> {
+impl<'a> Model for Cursor<'a> {
     ghost use Rattle.tall_grammar.specs.Readers.{Input};
 
     ghost Value = { Input };
@@ -71,13 +71,13 @@ fn is_taken(names: &BTreeSet<String>, text: &str) -> bool
     names.contains(text)
 }
 
-impl<'a> Tokens<'a> {
+impl<'a> Cursor<'a> {
     /// Before the tokens of a script, which are spans of its bytes. The first expression has the number 1.
-    pub fn new(script: &'a [u8], tokens: &'a [Token]) -> Tokens<'a>
+    pub fn new(script: &'a [u8], tokens: &'a [Token]) -> Cursor<'a>
         requires { AllByRecursion (IsSlice script.now) tokens.now }
         ensures { result ≡ input (lexemes_of script.now tokens.now) 1 }
     {
-        Tokens {
+        Cursor {
             script,
             rest: tokens,
             next: 1,

@@ -8,7 +8,7 @@ ghost use Rattle.tall_expr.specs.Nests.{Nests};
 ghost use Rattle.tall_expr.specs.Gives.{Gives, kept_by};
 ghost use Rattle.tall_grammar.specs.Views.{tree_of, arg_of};
 
-use crate::cursor::Tokens;
+use crate::cursor::Cursor;
 use crate::kept::Kept;
 use crate::prefixes::{signed, signs};
 use crate::values::{number_value, text_value};
@@ -33,36 +33,36 @@ struct Grammar<F> {
     expr: F,
 }
 
-impl<F: Fn(Global, &mut Tokens<'_>, usize, usize, u32) -> Result<Kept<Expr>, Fault>> Grammar<F> {
-    fn expr(&self, tokens: &mut Tokens<'_>) -> Result<Kept<Expr>, Fault>
+impl<F: Fn(Global, &mut Cursor<'_>, usize, usize, u32) -> Result<Kept<Expr>, Fault>> Grammar<F> {
+    fn expr(&self, tokens: &mut Cursor<'_>) -> Result<Kept<Expr>, Fault>
         requires { Nests self.now.turns self.now.depth (F.pre self.now.expr) (F.post self.now.expr) }
         ensures { Gives (kept_by tree_of) (expr_within self.now.turns self.now.depth self.now.line tokens.old) result tokens.new }
     {
         (self.expr)(self.alloc, tokens, self.turns, self.depth, self.line)
     }
 
-    fn number(&self, tokens: &mut Tokens<'_>) -> Result<Kept<Expr>, Fault>
+    fn number(&self, tokens: &mut Cursor<'_>) -> Result<Kept<Expr>, Fault>
         ensures { Gives (kept_by tree_of) (spec.number_leaf self.now.line tokens.old) result tokens.new }
     {
         let value = number_value(tokens.take_number()?);
         Ok(Some((nodes::number(tokens.number()?, self.line, value), 1)))
     }
 
-    fn text(&self, tokens: &mut Tokens<'_>) -> Result<Kept<Expr>, Fault>
+    fn text(&self, tokens: &mut Cursor<'_>) -> Result<Kept<Expr>, Fault>
         ensures { Gives (kept_by tree_of) (spec.text_leaf self.now.line tokens.old) result tokens.new }
     {
         let value = text_value(self.alloc, tokens.take_text()?)?;
         Ok(Some((nodes::text(tokens.number()?, self.line, value), 1)))
     }
 
-    fn name(&self, tokens: &mut Tokens<'_>) -> Result<Kept<Expr>, Fault>
+    fn name(&self, tokens: &mut Cursor<'_>) -> Result<Kept<Expr>, Fault>
         ensures { Gives (kept_by tree_of) (spec.name_leaf self.now.line tokens.old) result tokens.new }
     {
         let name = Name::of(self.alloc, tokens.take_name()?)?;
         Ok(Some((nodes::name(tokens.number()?, self.line, name), 1)))
     }
 
-    fn handle(&self, tokens: &mut Tokens<'_>) -> Result<Kept<Expr>, Fault>
+    fn handle(&self, tokens: &mut Cursor<'_>) -> Result<Kept<Expr>, Fault>
         ensures { Gives (kept_by tree_of) (spec.a_handle self.now.line tokens.old) result tokens.new }
     {
         tokens.expect_sign(b"@")?;
@@ -70,7 +70,7 @@ impl<F: Fn(Global, &mut Tokens<'_>, usize, usize, u32) -> Result<Kept<Expr>, Fau
         Ok(Some((nodes::handle(tokens.number()?, self.line, name), 1)))
     }
 
-    fn in_parentheses(&self, tokens: &mut Tokens<'_>) -> Result<Kept<Expr>, Fault>
+    fn in_parentheses(&self, tokens: &mut Cursor<'_>) -> Result<Kept<Expr>, Fault>
         requires { Nests self.now.turns self.now.depth (F.pre self.now.expr) (F.post self.now.expr) }
         ensures { Gives (kept_by tree_of) (spec.in_parentheses (expr_within self.now.turns self.now.depth) self.now.turns self.now.line tokens.old) result tokens.new }
     {
@@ -80,7 +80,7 @@ impl<F: Fn(Global, &mut Tokens<'_>, usize, usize, u32) -> Result<Kept<Expr>, Fau
     }
 
     /// What begins with a sign.
-    fn signed_primary(&self, tokens: &mut Tokens<'_>) -> Result<Kept<Expr>, Fault>
+    fn signed_primary(&self, tokens: &mut Cursor<'_>) -> Result<Kept<Expr>, Fault>
         requires { Nests self.now.turns self.now.depth (F.pre self.now.expr) (F.post self.now.expr) }
         ensures { Gives (kept_by tree_of) (spec.signed_primary (expr_within self.now.turns self.now.depth) self.now.turns self.now.line tokens.old) result tokens.new }
     {
@@ -98,7 +98,7 @@ impl<F: Fn(Global, &mut Tokens<'_>, usize, usize, u32) -> Result<Kept<Expr>, Fau
         }
     }
 
-    fn primary(&self, tokens: &mut Tokens<'_>) -> Result<Kept<Expr>, Fault>
+    fn primary(&self, tokens: &mut Cursor<'_>) -> Result<Kept<Expr>, Fault>
         requires { Nests self.now.turns self.now.depth (F.pre self.now.expr) (F.post self.now.expr) }
         ensures { Gives (kept_by tree_of) (spec.primary (expr_within self.now.turns self.now.depth) self.now.turns self.now.line tokens.old) result tokens.new }
     {
@@ -113,7 +113,7 @@ impl<F: Fn(Global, &mut Tokens<'_>, usize, usize, u32) -> Result<Kept<Expr>, Fau
         }
     }
 
-    fn arg(&self, tokens: &mut Tokens<'_>) -> Result<Kept<Arg>, Fault>
+    fn arg(&self, tokens: &mut Cursor<'_>) -> Result<Kept<Arg>, Fault>
         requires { Nests self.now.turns self.now.depth (F.pre self.now.expr) (F.post self.now.expr) }
         ensures { Gives (kept_by arg_of) (spec.arg (expr_within self.now.turns self.now.depth) self.now.turns self.now.line tokens.old) result tokens.new }
     {
@@ -125,7 +125,7 @@ impl<F: Fn(Global, &mut Tokens<'_>, usize, usize, u32) -> Result<Kept<Expr>, Fau
     }
 
     /// Arguments with a comma between two.
-    fn args(&self, tokens: &mut Tokens<'_>) -> Result<Kept<Items<Arg>>, Fault>
+    fn args(&self, tokens: &mut Cursor<'_>) -> Result<Kept<Items<Arg>>, Fault>
         requires { Nests self.now.turns self.now.depth (F.pre self.now.expr) (F.post self.now.expr) }
         ensures { Gives (kept_by (map arg_of)) (spec.args_from (expr_within self.now.turns self.now.depth) self.now.turns self.now.line self.now.turns no_arguments tokens.old) result tokens.new }
     {
@@ -137,11 +137,11 @@ impl<F: Fn(Global, &mut Tokens<'_>, usize, usize, u32) -> Result<Kept<Expr>, Fau
             }
             tokens.take();
         }
-        Err(Fault::Memory)
+        Err(Fault::OutOfTurns)
     }
 
     /// Arguments behind the parenthesis that opens, with the one that closes.
-    fn closed_args(&self, tokens: &mut Tokens<'_>) -> Result<Kept<Items<Arg>>, Fault>
+    fn closed_args(&self, tokens: &mut Cursor<'_>) -> Result<Kept<Items<Arg>>, Fault>
         requires { Nests self.now.turns self.now.depth (F.pre self.now.expr) (F.post self.now.expr) }
         ensures { Gives (kept_by (map arg_of)) (spec.closed_args (expr_within self.now.turns self.now.depth) self.now.turns self.now.line tokens.old) result tokens.new }
     {
@@ -155,7 +155,7 @@ impl<F: Fn(Global, &mut Tokens<'_>, usize, usize, u32) -> Result<Kept<Expr>, Fau
     }
 
     /// A member behind its point.
-    fn member(&self, tokens: &mut Tokens<'_>, whole: Kept<Expr>) -> Result<Kept<Expr>, Fault>
+    fn member(&self, tokens: &mut Cursor<'_>, whole: Kept<Expr>) -> Result<Kept<Expr>, Fault>
         ensures { Gives (kept_by tree_of) (spec.member_step self.now.line (kept_by tree_of whole) tokens.old) result tokens.new }
     {
         let name = Name::of(self.alloc, tokens.take_name()?)?;
@@ -164,7 +164,7 @@ impl<F: Fn(Global, &mut Tokens<'_>, usize, usize, u32) -> Result<Kept<Expr>, Fau
     }
 
     /// A call behind its parenthesis.
-    fn call(&self, tokens: &mut Tokens<'_>, called: Kept<Expr>) -> Result<Kept<Expr>, Fault>
+    fn call(&self, tokens: &mut Cursor<'_>, called: Kept<Expr>) -> Result<Kept<Expr>, Fault>
         requires { Nests self.now.turns self.now.depth (F.pre self.now.expr) (F.post self.now.expr) }
         ensures { Gives (kept_by tree_of) (spec.call_step (expr_within self.now.turns self.now.depth) self.now.turns self.now.line (kept_by tree_of called) tokens.old) result tokens.new }
     {
@@ -174,7 +174,7 @@ impl<F: Fn(Global, &mut Tokens<'_>, usize, usize, u32) -> Result<Kept<Expr>, Fau
     }
 
     /// Members and calls behind a primary expression.
-    fn post_from(&self, tokens: &mut Tokens<'_>, first: Kept<Expr>) -> Result<Kept<Expr>, Fault>
+    fn post_from(&self, tokens: &mut Cursor<'_>, first: Kept<Expr>) -> Result<Kept<Expr>, Fault>
         requires { Nests self.now.turns self.now.depth (F.pre self.now.expr) (F.post self.now.expr) }
         ensures { Gives (kept_by tree_of) (spec.post_from (expr_within self.now.turns self.now.depth) self.now.turns self.now.line self.now.turns (kept_by tree_of first) tokens.old) result tokens.new }
     {
@@ -190,11 +190,11 @@ impl<F: Fn(Global, &mut Tokens<'_>, usize, usize, u32) -> Result<Kept<Expr>, Fau
                 return Ok(whole);
             }
         }
-        Err(Fault::Memory)
+        Err(Fault::OutOfTurns)
     }
 
     /// A primary expression with what stands before and behind it.
-    fn pre(&self, tokens: &mut Tokens<'_>) -> Result<Kept<Expr>, Fault>
+    fn pre(&self, tokens: &mut Cursor<'_>) -> Result<Kept<Expr>, Fault>
         requires { Nests self.now.turns self.now.depth (F.pre self.now.expr) (F.post self.now.expr) }
         ensures { Gives (kept_by tree_of) (spec.pre (expr_within self.now.turns self.now.depth) self.now.turns self.now.line tokens.old) result tokens.new }
     {
@@ -205,7 +205,7 @@ impl<F: Fn(Global, &mut Tokens<'_>, usize, usize, u32) -> Result<Kept<Expr>, Fau
     }
 
     /// An expression of a level: 0 has no operators between operands, 5 has all of them.
-    fn level(&self, tokens: &mut Tokens<'_>, level: u32) -> Result<Kept<Expr>, Fault>
+    fn level(&self, tokens: &mut Cursor<'_>, level: u32) -> Result<Kept<Expr>, Fault>
         requires { Nests self.now.turns self.now.depth (F.pre self.now.expr) (F.post self.now.expr) }
         ensures { Gives (kept_by tree_of) (spec.level (expr_within self.now.turns self.now.depth) self.now.turns self.now.line level tokens.old) result tokens.new }
     {
@@ -228,15 +228,15 @@ impl<F: Fn(Global, &mut Tokens<'_>, usize, usize, u32) -> Result<Kept<Expr>, Fau
                 right,
             )?;
         }
-        Err(Fault::Memory)
+        Err(Fault::OutOfTurns)
     }
 }
 
 /// An expression on a line, of at most so many others inside one another. `turns` is no fewer than the tokens. Where
-/// either number runs out the answer is `Fault::Memory`.
+/// either number runs out the answer is `Fault::OutOfTurns`.
 pub fn expr(
     alloc: Global,
-    tokens: &mut Tokens<'_>,
+    tokens: &mut Cursor<'_>,
     turns: usize,
     depth: usize,
     line: u32,
@@ -244,7 +244,7 @@ pub fn expr(
     ensures { Gives (kept_by tree_of) (expr_within turns depth line tokens.old) result tokens.new }
 {
     if depth == 0 {
-        return Err(Fault::Memory);
+        return Err(Fault::OutOfTurns);
     }
     Grammar {
         alloc,
@@ -260,7 +260,7 @@ pub fn expr(
 /// those of `expr`.
 pub fn args(
     alloc: Global,
-    tokens: &mut Tokens<'_>,
+    tokens: &mut Cursor<'_>,
     turns: usize,
     depth: usize,
     line: u32,

@@ -11,4 +11,4 @@ mod prefixes;
 mod text_lists;
 mod values;
 
-pub use cursor::Tokens;
+pub use cursor::Cursor;

@@ -4,7 +4,7 @@ ghost use Rattle.tall_grammar.specs.ExprReader as spec;
 ghost use Rattle.tall_expr.specs.Gives.{Gives, kept_by};
 ghost use Rattle.tall_grammar.specs.Views.{tree_of};
 
-use crate::cursor::Tokens;
+use crate::cursor::Cursor;
 use crate::kept;
 use crate::kept::Kept;
 use sqlite_items::Items;
@@ -13,7 +13,7 @@ use tall_grammar::expressions::{Expr, Prefix};
 use tall_grammar::faults::Fault;
 
 /// The signs that come next, in their order.
-pub fn signs(alloc: Global, tokens: &mut Tokens<'_>, turns: usize) -> Result<Items<Prefix>, Fault>
+pub fn signs(alloc: Global, tokens: &mut Cursor<'_>, turns: usize) -> Result<Items<Prefix>, Fault>
     ensures { Gives reverse (spec.signs_from turns [] tokens.old) result tokens.new }
 {
     let mut found = Items::new(alloc);
@@ -24,13 +24,13 @@ pub fn signs(alloc: Global, tokens: &mut Tokens<'_>, turns: usize) -> Result<Ite
         tokens.take();
         found.push(sign)?;
     }
-    Err(Fault::Memory)
+    Err(Fault::OutOfTurns)
 }
 
 /// The operand behind these signs. The last one stands next to it.
 pub fn signed(
     alloc: Global,
-    tokens: &mut Tokens<'_>,
+    tokens: &mut Cursor<'_>,
     line: u32,
     mut signs: Items<Prefix>,
     mut operand: Kept<Expr>,

@@ -5,7 +5,7 @@ ghost use Rattle.tall_grammar.specs.Readers.{front_is, goes_on_with, is_text_tok
 ghost use Rattle.tall_expr.specs.Gives.{Gives, kept_by};
 ghost use Rattle.tall_grammar.specs.Views.{tree_of};
 
-use crate::cursor::Tokens;
+use crate::cursor::Cursor;
 use crate::kept::Kept;
 use crate::nodes;
 use crate::values::text_value;
@@ -15,7 +15,7 @@ use tall_grammar::expressions::Expr;
 use tall_grammar::faults::Fault;
 
 /// A text.
-fn text(alloc: Global, tokens: &mut Tokens<'_>, line: u32) -> Result<Expr, Fault>
+fn text(alloc: Global, tokens: &mut Cursor<'_>, line: u32) -> Result<Expr, Fault>
     ensures { Gives tree_of (spec.text_here line tokens.old) result tokens.new }
 {
     let value = text_value(alloc, tokens.take_text()?)?;
@@ -23,7 +23,7 @@ fn text(alloc: Global, tokens: &mut Tokens<'_>, line: u32) -> Result<Expr, Fault
 }
 
 /// Does a text come next, or a comma?
-fn goes_on(tokens: &Tokens<'_>) -> bool
+fn goes_on(tokens: &Cursor<'_>) -> bool
     ensures { result ≡ front_is (goes_on_with is_text_token) tokens.now.rest }
 {
     tokens.is_text() || tokens.is_sign(b",")
@@ -32,7 +32,7 @@ fn goes_on(tokens: &Tokens<'_>) -> bool
 /// Texts, with a comma or without one between two.
 fn texts(
     alloc: Global,
-    tokens: &mut Tokens<'_>,
+    tokens: &mut Cursor<'_>,
     turns: usize,
     line: u32,
 ) -> Result<Items<Expr>, Fault>
@@ -47,12 +47,12 @@ fn texts(
         tokens.skip_comma();
         found.push(text(alloc, tokens, line)?)?;
     }
-    Err(Fault::Memory)
+    Err(Fault::OutOfTurns)
 }
 
 /// What follows on the texts of a list.
 fn closed(
-    tokens: &mut Tokens<'_>,
+    tokens: &mut Cursor<'_>,
     bracket: &[u8],
     line: u32,
     texts: Items<Expr>,
@@ -67,7 +67,7 @@ fn closed(
 /// A list behind its brace.
 pub fn in_braces(
     alloc: Global,
-    tokens: &mut Tokens<'_>,
+    tokens: &mut Cursor<'_>,
     turns: usize,
     line: u32,
 ) -> Result<Kept<Expr>, Fault>
@@ -84,7 +84,7 @@ pub fn in_braces(
 /// A list behind its bracket.
 pub fn in_brackets(
     alloc: Global,
-    tokens: &mut Tokens<'_>,
+    tokens: &mut Cursor<'_>,
     turns: usize,
     line: u32,
 ) -> Result<Kept<Expr>, Fault>

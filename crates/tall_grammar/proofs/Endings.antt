@@ -1,7 +1,7 @@
 -- Readers that read to the end of the text, and when such a reader and a rule say the same.
 use Rattle.std.proofs.Common.{◌≡◌, ℕ, suc, Bool, true, false, List, [], ◌∷◌, ◌++◌, length, Some, ⊎_elim, refl, sym, ap, ◌∙◌, subst, append_assoc}
 use Rattle.std.specs.Prelude.{if◌then◌else◌, Result, Ok, Err}
-use Rattle.tall_grammar.specs.declared.faults.Fault.TheVariants.{Stop, Memory}
+use Rattle.tall_grammar.specs.declared.faults.Fault.TheVariants.{Stop, OutOfTurns}
 use Rattle.tall_grammar.specs.Lexemes.{Lexeme}
 use Rattle.tall_grammar.specs.Grammar.{first_line}
 use Rattle.tall_grammar.specs.Readers.{Input, input, Reader, ◌>>=◌, pure, front_is}
@@ -41,7 +41,7 @@ end_same p q e x = record {
   whole = λ ts m a n r. read_as _ _ a (input [] n) (e ts m) (x.whole ts m a n r);
 }
 
-pub end_tired : {A : Type 0} (R : Rule A) → ((m : ℕ) → Live R m) → (p : Reader A) → ((i : Input) → p i ≡ Err Memory) → Ending R p
+pub end_tired : {A : Type 0} (R : Rule A) → ((m : ℕ) → Live R m) → (p : Reader A) → ((i : Input) → p i ≡ Err OutOfTurns) → Ending R p
 end_tired R live p e = record {
   live = live;
   same_stop = λ ts x r s m h. let g = sym (e (input (ts ++ x ∷ r) m)) ∙ h in absurd cc;

@@ -2,7 +2,7 @@
 -- that the rule has, what the rule has is read, and no token behind the one where it stopped made a difference.
 use Rattle.std.proofs.Common.{◌≡◌, ℕ, suc, Bool, false, List, [], ◌∷◌, ◌++◌, length, Option, ◌⊎◌, inl, inr, refl, sym, ap, ◌∙◌, subst, arith, length-append}
 use Rattle.std.specs.Prelude.{Ok, Err}
-use Rattle.tall_grammar.specs.declared.faults.Fault.TheVariants.{Stop, Memory}
+use Rattle.tall_grammar.specs.declared.faults.Fault.TheVariants.{Stop, OutOfTurns, Memory}
 use Rattle.tall_grammar.specs.Lexemes.{Lexeme}
 use Rattle.tall_grammar.specs.Readers.{Input, input, Outcome, Reader, and_then, front_as, front_is}
 
@@ -60,7 +60,8 @@ pub record Begun {A : Type 0} (R : Rule A) (m : ℕ) (ts : List Lexeme) (k : ℕ
 abbrev pub IsRead : {A : Type 0} → Outcome A → A → Input → Type 0
 IsRead (Ok p) a j = p ≡ (a, j)
 IsRead (Err (Stop k)) a j = ⊥
-IsRead (Err Memory) a j = Unit {0}
+IsRead (Err OutOfTurns) a j = Unit {0}
+IsRead (Err Memory) a j = ⊥
 
 -- `goes` holds for the tokens that would belong to it still
 pub record Exact {A : Type 0} (R : Rule A) (goes : Lexeme → Bool) (p : Reader A) : Type 0 where
@@ -121,7 +122,8 @@ pub bind_read : {A B : Type 0} (o : Outcome A) (f : A → Reader B) (a : A) (i :
     → IsRead (f a i) b j → IsRead (and_then o f) b j
 bind_read (Ok p) f a i b j h g = subst (λ (p : _). IsRead (f p.0 p.1) b j) (sym h) g
 bind_read (Err (Stop k)) f a i b j h g = absurd h
-bind_read (Err Memory) f a i b j h g = tt
+bind_read (Err OutOfTurns) f a i b j h g = tt
+bind_read (Err Memory) f a i b j h g = absurd h
 
 pub read_is : {A : Type 0} (o : Outcome A) (a : A) (j : Input) → o ≡ Ok (a, j) → IsRead o a j
 read_is o a j h = subst (λ (o : _). IsRead o a j) (sym h) refl

@@ -2,7 +2,7 @@
 use Rattle.std.proofs.Common.{◌≡◌, ℕ, suc, zero, ◌<◌, ◌≤◌, Bool, true, false, List, [], ◌∷◌, length, Option, Some, None, refl, subst, arith}
 use Rattle.std.proofs.lemmas.Bool.Decides.{nat_tests}
 use Rattle.std.specs.Prelude.{Ok, Err, if◌then◌else◌, nat_lt}
-use Rattle.tall_grammar.specs.declared.faults.Fault.TheVariants.{Stop, Memory}
+use Rattle.tall_grammar.specs.declared.faults.Fault.TheVariants.{Stop, OutOfTurns, Memory}
 use Rattle.tall_grammar.specs.Lexemes.{Lexeme}
 use Rattle.tall_grammar.specs.Refusals.{limit, open_behind, too_deep_from}
 use Rattle.tall_grammar.specs.Readers.{Input, input, Outcome, Reader, and_then, ◌>>=◌, pure, stopped, front_is, chosen, given, given_if, peek, take_as, take_text, text_if, expect, numbered}
@@ -19,6 +19,7 @@ pub record Fits (few opened : ℕ) (i : Input) : Type 0 where
 abbrev pub Leaves : {A : Type 0} → ℕ → ℕ → Outcome A → Type 0
 Leaves few opened (Ok p) = Fits few opened p.1
 Leaves few opened (Err (Stop n)) = Unit {0}
+Leaves few opened (Err OutOfTurns) = ⊥
 Leaves few opened (Err Memory) = ⊥
 
 -- from what fits the first two numbers, a reader leaves what fits the other two
@@ -57,6 +58,7 @@ lasts_more {A} {b} {o} {c} {n} {d} p le x = record { leaves = λ i h. by (p i) (
   by : (r : Outcome A) → Leaves c n r → Leaves d n r
   by (Ok q) f = more_fits c d n q.1 le f
   by (Err (Stop k)) f = tt
+  by (Err OutOfTurns) f = f
   by (Err Memory) f = f
 
 -- a reader that takes a token leaves no more than there were
@@ -78,6 +80,7 @@ lasts_bind {A} {B} {b} {o} {c} {n} {d} {m} p f x y = record { leaves = λ i h. b
   by : (r : Outcome A) → Leaves c n r → Leaves d m (and_then r f)
   by (Ok q) g = (y q.0).leaves q.1 g
   by (Err (Stop k)) g = tt
+  by (Err OutOfTurns) g = g
   by (Err Memory) g = g
 
 -- a choice by what is left

@@ -2,7 +2,7 @@
 use Rattle.std.proofs.Common.{◌≡◌, ℕ, suc, zero, Bool, true, false, List, [], ◌∷◌, ◌++◌, Option, Some, refl, sym, ap, ◌∙◌, subst}
 use Rattle.std.proofs.lemmas.List.{append-nil}
 use Rattle.std.specs.Prelude.{codes, if◌then◌else◌, Ok, Err}
-use Rattle.tall_grammar.specs.declared.faults.Fault.TheVariants.{Memory}
+use Rattle.tall_grammar.specs.declared.faults.Fault.TheVariants.{OutOfTurns}
 use Rattle.tall_grammar.specs.Lexemes.{Lexeme, sign, word, name_token, is_the_word, is_separator, shows}
 use Rattle.tall_grammar.specs.Trees.{Tree, Body, assigned, gathered, property, bare, SeenStatement, SeenFunction, SeenScript}
 use Rattle.tall_grammar.specs.Refusals.{body_trees}
@@ -260,7 +260,7 @@ module _ (k d : ℕ) where
   live_from : (found : Flagged (List SeenStatement)) (m : ℕ) → Live (ProgramFrom found) m
   live_from found m = record { tokens = []; value = _; next = m; holds = p_functions found m m [] [] _ (no_functions m) refl refl }
 
-  tired_from : (found : Flagged (List SeenStatement)) (i : Input) → whole_from zero found i ≡ Err Memory
+  tired_from : (found : Flagged (List SeenStatement)) (i : Input) → whole_from zero found i ≡ Err OutOfTurns
   unfolding statements_from
   tired_from found i = refl
 

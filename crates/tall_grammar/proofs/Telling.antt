@@ -2,11 +2,11 @@
 use Rattle.std.proofs.Common.{◌≡◌, ℕ, ◌-◌, List, [], ◌∷◌, ◌++◌, length, drop, Option, Some, None, refl, sym, ap, ◌∙◌, subst, arith, append_assoc, length-append}
 use Rattle.std.proofs.Math.Seq.{drop-append_seam}
 use Rattle.std.specs.Prelude.{Ok, Err}
-use Rattle.tall_grammar.specs.declared.faults.Fault.TheVariants.{Stop, Memory}
+use Rattle.tall_grammar.specs.declared.faults.Fault.TheVariants.{Stop, OutOfTurns, Memory}
 use Rattle.tall_grammar.specs.Lexemes.{Lexeme}
 use Rattle.tall_grammar.specs.Trees.{SeenScript}
 use Rattle.tall_grammar.specs.Grammar.{IsScript}
-use Rattle.tall_grammar.specs.Refusals.{program_trees, too_high, too_deep, GoesOn, StopsAt, EndsEarly, Answer, read, too_deep_at, syntax_at, Reads, is_too_deep, stops_short, ends_early, is_too_high, is_script}
+use Rattle.tall_grammar.specs.Refusals.{program_trees, too_high, too_deep, GoesOn, StopsAt, EndsEarly, Verdict, read, too_deep_at, syntax_at, Reads, is_too_deep, stops_short, ends_early, is_too_high, is_script}
 use Rattle.tall_grammar.specs.Kept.{Flagged, flagged, flagged_by}
 use Rattle.tall_grammar.specs.Readers.{Input, Outcome, input}
 use Rattle.tall_grammar.specs.ScriptReader.{program}
@@ -23,8 +23,8 @@ told_read o s v q e = ap of_flag (q ∙ ap (λ o. flagged_by o s) e)
 
 script_tells : (last : ℕ) (ts : List Lexeme) (s : SeenScript) (v : Flagged SeenScript) → too_deep ts ≡ None → IsScript ts s → v ≡ flagged (program_trees s) s → Reads last ts (of_flag v)
 script_tells last ts s v deep r q = (elim (too_high s) as (λ o. too_high s ≡ o → Reads last ts (of_flag v)) [
-  | None ↦ λ e. subst (λ (a : Answer). Reads last ts a) (sym (told_read (too_high s) s v q e)) (is_script deep r e)
-  | Some l ↦ λ e. subst (λ (a : Answer). Reads last ts a) (sym (told_by (too_high s) s v q l e)) (is_too_high deep r e)
+  | None ↦ λ e. subst (λ (a : Verdict). Reads last ts a) (sym (told_read (too_high s) s v q e)) (is_script deep r e)
+  | Some l ↦ λ e. subst (λ (a : Verdict). Reads last ts a) (sym (told_by (too_high s) s v q l e)) (is_too_high deep r e)
 ]) refl
 
 -- ---- prefixes
@@ -101,14 +101,14 @@ module _ (k d last : ℕ) (ts : List Lexeme) (deep : too_deep ts ≡ None) where
   no_depth : (l : ℕ) → too_deep ts ≡ Some l → ⊥
   no_depth l e = let g : ◌≡◌ {A = Option ℕ} None (Some l) = sym deep ∙ e in absurd cc
 
-  pub read_alone : (v : Flagged SeenScript) (j : Input) → program k d (input ts 1) ≡ Ok (v, j) → (a : Answer) → Reads last ts a → a ≡ of_flag v
+  pub read_alone : (v : Flagged SeenScript) (j : Input) → program k d (input ts 1) ≡ Ok (v, j) → (a : Verdict) → Reads last ts a → a ≡ of_flag v
   read_alone v j h a (is_too_deep {l} e) = absurd (no_depth l e)
   read_alone v j h a (stops_short {l} e s) = let u = read_is_script k d ts v j h in absurd (s.stops (script_goes ts s.front s.stop s.rest u.script s.text u.holds))
   read_alone v j h a (ends_early e s) = let u = read_is_script k d ts v j h in absurd (s.ends u.script u.holds)
   read_alone v j h a (is_too_high {l} {s} e r q) = sym (told_by (too_high s) s v (only_read k d ts v j h s r) l q)
   read_alone v j h a (is_script {s} e r q) = sym (told_read (too_high s) s v (only_read k d ts v j h s r) q)
 
-  pub stop_alone : (n : ℕ) → program k d (input ts 1) ≡ Err (Stop n) → (a : Answer) → Reads last ts a → a ≡ syntax_from last ts n
+  pub stop_alone : (n : ℕ) → program k d (input ts 1) ≡ Err (Stop n) → (a : Verdict) → Reads last ts a → a ≡ syntax_from last ts n
   stop_alone n h a (is_too_deep {l} e) = absurd (no_depth l e)
   stop_alone n h a (stops_short {l} e s) = by (place n h) where
     by : Place n → syntax_at l ≡ syntax_from last ts n
@@ -123,19 +123,21 @@ module _ (k d last : ℕ) (ts : List Lexeme) (deep : too_deep ts ≡ None) where
 
 -- ---- what is said of an outcome
 
-pub said_tells : (k d last : ℕ) (ts : List Lexeme) (answer : Answer) → too_deep ts ≡ None → said last ts (program k d (input ts 1)) ≡ Some answer → Reads last ts answer
+pub said_tells : (k d last : ℕ) (ts : List Lexeme) (answer : Verdict) → too_deep ts ≡ None → said last ts (program k d (input ts 1)) ≡ Some answer → Reads last ts answer
 said_tells k d last ts answer deep e = by (program k d (input ts 1)) refl e
   where
     by : (o : Outcome (Flagged SeenScript)) → program k d (input ts 1) ≡ o → said last ts o ≡ Some answer → Reads last ts answer
     by (Ok p) h q = let same : of_flag p.0 ≡ answer = cc in subst (Reads last ts) same (read_tells k d last ts deep p.0 p.1 h)
     by (Err (Stop n)) h q = let same : syntax_from last ts n ≡ answer = cc in subst (Reads last ts) same (stop_tells k d last ts deep n h)
+    by (Err OutOfTurns) h q = absurd cc
     by (Err Memory) h q = absurd cc
 
-pub said_alone : (k d last : ℕ) (ts : List Lexeme) (answer other : Answer) → too_deep ts ≡ None → said last ts (program k d (input ts 1)) ≡ Some answer
+pub said_alone : (k d last : ℕ) (ts : List Lexeme) (answer other : Verdict) → too_deep ts ≡ None → said last ts (program k d (input ts 1)) ≡ Some answer
     → Reads last ts other → other ≡ answer
 said_alone k d last ts answer other deep e r = by (program k d (input ts 1)) refl e
   where
     by : (o : Outcome (Flagged SeenScript)) → program k d (input ts 1) ≡ o → said last ts o ≡ Some answer → other ≡ answer
     by (Ok p) h q = let same : of_flag p.0 ≡ answer = cc in read_alone k d last ts deep p.0 p.1 h other r ∙ same
     by (Err (Stop n)) h q = let same : syntax_from last ts n ≡ answer = cc in stop_alone k d last ts deep n h other r ∙ same
+    by (Err OutOfTurns) h q = absurd cc
     by (Err Memory) h q = absurd cc

@@ -4,7 +4,7 @@ use Rattle.std.specs.Prelude.{ℕ, suc, zero, ◌||◌, Bool, true, false, if◌
 use Rattle.tall_lex.specs.declared.tokens.TokenKind.{TokenKind}
 use Rattle.tall_lex.specs.declared.tokens.TokenKind.TheVariants.{Name, Number, Text, Word, Sign, LineEnd}
 use Rattle.tall_grammar.specs.declared.faults.Fault.{Fault}
-use Rattle.tall_grammar.specs.declared.faults.Fault.TheVariants.{Stop, Memory}
+use Rattle.tall_grammar.specs.declared.faults.Fault.TheVariants.{Stop, OutOfTurns}
 use Rattle.tall_grammar.specs.Lexemes.{Lexeme, is_the_sign, is_the_word, is_separator, is_sign_kind}
 
 -- the tokens that are left, and the number of the next expression
@@ -36,9 +36,9 @@ pure a = λ i. Ok (a, i)
 abbrev pub stopped : {A : Type 0} → Reader A
 stopped = λ i. Err (Stop (length i.rest))
 
--- no more turns: never where they were more than the tokens
+-- no more turns, or no more depth: never where the turns were more than the tokens and the depth above the limit
 abbrev pub tired : {A : Type 0} → Reader A
-tired = λ i. Err Memory
+tired = λ i. Err OutOfTurns
 
 -- ---- one token
 

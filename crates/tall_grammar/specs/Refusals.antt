@@ -132,12 +132,12 @@ pub record EndsEarly (ts : List Lexeme) : Type 0 where
 
 -- ---- what bytes are
 
-pub data Answer : Type 0 where
-  read : SeenScript → Answer
-  too_long : Answer
-  bad_token : (line place : ℕ) → Answer
-  too_deep_at : (line : ℕ) → Answer
-  syntax_at : (line : ℕ) → Answer
+pub data Verdict : Type 0 where
+  read : SeenScript → Verdict
+  too_long : Verdict
+  bad_token : (line place : ℕ) → Verdict
+  too_deep_at : (line : ℕ) → Verdict
+  syntax_at : (line : ℕ) → Verdict
 
 -- the line at the end of a text: 1 and the number of its line ends
 abbrev pub last_line : List ℕ → ℕ
@@ -148,7 +148,7 @@ abbrev pub longest : ℕ
 longest = 1048576
 
 -- what the tokens of a script are, whose last line is given
-pub data Reads (last : ℕ) (ts : List Lexeme) : Answer → Type 0 where
+pub data Reads (last : ℕ) (ts : List Lexeme) : Verdict → Type 0 where
   is_too_deep : {l : ℕ} → too_deep ts ≡ Some l → Reads last ts (too_deep_at l)
   stops_short : {l : ℕ} → too_deep ts ≡ None → StopsAt ts l → Reads last ts (syntax_at l)
   ends_early : too_deep ts ≡ None → EndsEarly ts → Reads last ts (syntax_at last)
@@ -156,8 +156,8 @@ pub data Reads (last : ℕ) (ts : List Lexeme) : Answer → Type 0 where
   is_script : {s : SeenScript} → too_deep ts ≡ None → IsScript ts s → too_high s ≡ None → Reads last ts (read s)
 
 -- what the bytes are
-pub data Parses (bytes : List ℕ) : Answer → Type 0 where
+pub data Parses (bytes : List ℕ) : Verdict → Type 0 where
   is_too_long : longest < length bytes → Parses bytes too_long
   has_bad_token : {l p : ℕ} → length bytes ≤ longest → tokens_of_bytes bytes ≡ Err (l, p) → Parses bytes (bad_token l p)
-  has_tokens : {tokens : List Token} {answer : Answer} → length bytes ≤ longest → tokens_of_bytes bytes ≡ Ok tokens
+  has_tokens : {tokens : List Token} {answer : Verdict} → length bytes ≤ longest → tokens_of_bytes bytes ≡ Ok tokens
       → Reads (last_line bytes) (lexemes_of bytes tokens) answer → Parses bytes answer

@@ -10,7 +10,7 @@ use Rattle.tall_lex.specs.Tokens.{tokens_from, tokens_of_bytes}
 use Rattle.tall_grammar.specs.ExprReader.{args_from, post_from, signs_from, signed, chain_from, level, expr_within}
 use Rattle.tall_grammar.specs.Readers.{listed_from}
 use Rattle.tall_grammar.specs.ScriptReader.{statements_from, arms_from, steps_from, steps_within, functions_from}
-use Rattle.tall_grammar.specs.Refusals.{Answer, read, bad_token, syntax_at, too_deep_at}
+use Rattle.tall_grammar.specs.Refusals.{Verdict, read, bad_token, syntax_at, too_deep_at}
 use Rattle.tall_grammar.specs.Verdicts.{verdict}
 
 -- unfolded, it lets bytes be read by computing
@@ -19,7 +19,7 @@ unfolding tokens_of_bytes utf8_valid_len is_utf8 chars encode tokens_from piece_
 reading = tt
 
 -- the bytes are a script
-abbrev is_read : Option Answer → Bool
+abbrev is_read : Option Verdict → Bool
 is_read (Some (read s)) = true
 is_read a = false
 

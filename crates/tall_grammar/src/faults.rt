@@ -8,7 +8,10 @@ pub enum Fault {
     /// The rule can't take the token before which so many tokens are left, that token among them; none at the end of
     /// the text.
     Stop(usize),
-    /// Want of memory.
+    /// The turns of a loop have run out, or the depth. It never comes where the turns are more than the tokens and the
+    /// depth is above the limit (`each_text_has_one_answer`).
+    OutOfTurns,
+    /// Want of memory. No definition has it.
     Memory,
 }
 

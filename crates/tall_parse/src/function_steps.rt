@@ -11,7 +11,7 @@ ghost use Rattle.tall_grammar.specs.Views.{step_of};
 use crate::statements::Reading;
 use crate::step_nodes::{added, arm, assigned, chosen, counted, looped};
 use sqlite_items::Items;
-use tall_expr::cursor::Tokens;
+use tall_expr::cursor::Cursor;
 use tall_expr::flagged::{Flagged, and_last};
 use tall_grammar::faults::Fault;
 use tall_grammar::steps::{Arm, FunctionStep};
@@ -21,7 +21,7 @@ impl Reading {
     /// An assignment behind its name.
     fn named_assignment(
         &self,
-        tokens: &mut Tokens<'_>,
+        tokens: &mut Cursor<'_>,
         line: u32,
         name: Name,
     ) -> Result<Flagged<FunctionStep>, Fault>
@@ -33,7 +33,7 @@ impl Reading {
     }
 
     /// A pair that is added, behind the parenthesis that opens.
-    fn adding(&self, tokens: &mut Tokens<'_>, line: u32) -> Result<Flagged<FunctionStep>, Fault>
+    fn adding(&self, tokens: &mut Cursor<'_>, line: u32) -> Result<Flagged<FunctionStep>, Fault>
         ensures { Gives (with_it step_of) (spec.adding self.now.turns self.now.depth line tokens.old) result tokens.new }
     {
         let store = self.expr(tokens, line)?;
@@ -48,7 +48,7 @@ impl Reading {
     /// A statement behind the name that begins it.
     fn named_step(
         &self,
-        tokens: &mut Tokens<'_>,
+        tokens: &mut Cursor<'_>,
         line: u32,
         name: Name,
     ) -> Result<Flagged<FunctionStep>, Fault>
@@ -72,10 +72,10 @@ struct Blocks<F> {
     steps: F,
 }
 
-impl<F: Fn(Reading, &mut Tokens<'_>, usize) -> Result<Flagged<Items<FunctionStep>>, Fault>> Blocks<
+impl<F: Fn(Reading, &mut Cursor<'_>, usize) -> Result<Flagged<Items<FunctionStep>>, Fault>> Blocks<
     F,
 > {
-    fn inner(&self, tokens: &mut Tokens<'_>) -> Result<Flagged<Items<FunctionStep>>, Fault>
+    fn inner(&self, tokens: &mut Cursor<'_>) -> Result<Flagged<Items<FunctionStep>>, Fault>
         requires { NestsBlocks self.now.reading self.now.blocks (F.pre self.now.steps) (F.post self.now.steps) }
         ensures { Gives (with_it (map step_of)) (steps_within self.now.reading.turns self.now.reading.depth self.now.blocks tokens.old) result tokens.new }
     {
@@ -83,7 +83,7 @@ impl<F: Fn(Reading, &mut Tokens<'_>, usize) -> Result<Flagged<Items<FunctionStep
     }
 
     /// A condition on a line, and what it governs.
-    fn arm(&self, tokens: &mut Tokens<'_>, line: u32) -> Result<Flagged<Arm>, Fault>
+    fn arm(&self, tokens: &mut Cursor<'_>, line: u32) -> Result<Flagged<Arm>, Fault>
         requires { NestsBlocks self.now.reading self.now.blocks (F.pre self.now.steps) (F.post self.now.steps) }
         ensures { Gives (with_it arm_of) (spec.arm self.now.reading.turns self.now.reading.depth (steps_within self.now.reading.turns self.now.reading.depth self.now.blocks) line tokens.old) result tokens.new }
     {
@@ -96,7 +96,7 @@ impl<F: Fn(Reading, &mut Tokens<'_>, usize) -> Result<Flagged<Items<FunctionStep
     /// The arms that follow the first one.
     fn arms_from(
         &self,
-        tokens: &mut Tokens<'_>,
+        tokens: &mut Cursor<'_>,
         first: Flagged<Arm>,
     ) -> Result<Flagged<Items<Arm>>, Fault>
         requires { NestsBlocks self.now.reading self.now.blocks (F.pre self.now.steps) (F.post self.now.steps) }
@@ -110,11 +110,11 @@ impl<F: Fn(Reading, &mut Tokens<'_>, usize) -> Result<Flagged<Items<FunctionStep
             tokens.take();
             found = and_last(found, self.arm(tokens, line)?)?;
         }
-        Err(Fault::Memory)
+        Err(Fault::OutOfTurns)
     }
 
     /// What is done where no condition holds.
-    fn rest_arm(&self, tokens: &mut Tokens<'_>) -> Result<Flagged<Items<FunctionStep>>, Fault>
+    fn rest_arm(&self, tokens: &mut Cursor<'_>) -> Result<Flagged<Items<FunctionStep>>, Fault>
         requires { NestsBlocks self.now.reading self.now.blocks (F.pre self.now.steps) (F.post self.now.steps) }
         ensures { Gives (with_it (map step_of)) (spec.rest_arm self.now.reading.turns self.now.reading.depth (steps_within self.now.reading.turns self.now.reading.depth self.now.blocks) tokens.old) result tokens.new }
     {
@@ -127,7 +127,7 @@ impl<F: Fn(Reading, &mut Tokens<'_>, usize) -> Result<Flagged<Items<FunctionStep
     }
 
     /// A choice behind its word.
-    fn choosing(&self, tokens: &mut Tokens<'_>, line: u32) -> Result<Flagged<FunctionStep>, Fault>
+    fn choosing(&self, tokens: &mut Cursor<'_>, line: u32) -> Result<Flagged<FunctionStep>, Fault>
         requires { NestsBlocks self.now.reading self.now.blocks (F.pre self.now.steps) (F.post self.now.steps) }
         ensures { Gives (with_it step_of) (spec.choosing self.now.reading.turns self.now.reading.depth (steps_within self.now.reading.turns self.now.reading.depth self.now.blocks) line tokens.old) result tokens.new }
     {
@@ -139,7 +139,7 @@ impl<F: Fn(Reading, &mut Tokens<'_>, usize) -> Result<Flagged<Items<FunctionStep
     }
 
     /// A loop under a condition, behind its word.
-    fn looping(&self, tokens: &mut Tokens<'_>, line: u32) -> Result<Flagged<FunctionStep>, Fault>
+    fn looping(&self, tokens: &mut Cursor<'_>, line: u32) -> Result<Flagged<FunctionStep>, Fault>
         requires { NestsBlocks self.now.reading self.now.blocks (F.pre self.now.steps) (F.post self.now.steps) }
         ensures { Gives (with_it step_of) (spec.looping self.now.reading.turns self.now.reading.depth (steps_within self.now.reading.turns self.now.reading.depth self.now.blocks) line tokens.old) result tokens.new }
     {
@@ -149,7 +149,7 @@ impl<F: Fn(Reading, &mut Tokens<'_>, usize) -> Result<Flagged<Items<FunctionStep
     }
 
     /// A loop over numbers, behind its word.
-    fn counting(&self, tokens: &mut Tokens<'_>, line: u32) -> Result<Flagged<FunctionStep>, Fault>
+    fn counting(&self, tokens: &mut Cursor<'_>, line: u32) -> Result<Flagged<FunctionStep>, Fault>
         requires { NestsBlocks self.now.reading self.now.blocks (F.pre self.now.steps) (F.post self.now.steps) }
         ensures { Gives (with_it step_of) (spec.counting self.now.reading.turns self.now.reading.depth (steps_within self.now.reading.turns self.now.reading.depth self.now.blocks) line tokens.old) result tokens.new }
     {
@@ -162,7 +162,7 @@ impl<F: Fn(Reading, &mut Tokens<'_>, usize) -> Result<Flagged<Items<FunctionStep
         Ok(counted(line, name, from, arm))
     }
 
-    fn step(&self, tokens: &mut Tokens<'_>, line: u32) -> Result<Flagged<FunctionStep>, Fault>
+    fn step(&self, tokens: &mut Cursor<'_>, line: u32) -> Result<Flagged<FunctionStep>, Fault>
         requires { NestsBlocks self.now.reading self.now.blocks (F.pre self.now.steps) (F.post self.now.steps) }
         ensures { Gives (with_it step_of) (spec.step self.now.reading.turns self.now.reading.depth (steps_within self.now.reading.turns self.now.reading.depth self.now.blocks) line tokens.old) result tokens.new }
     {
@@ -182,7 +182,7 @@ impl<F: Fn(Reading, &mut Tokens<'_>, usize) -> Result<Flagged<Items<FunctionStep
     }
 
     /// Statements, each with its separators.
-    fn steps(&self, tokens: &mut Tokens<'_>) -> Result<Flagged<Items<FunctionStep>>, Fault>
+    fn steps(&self, tokens: &mut Cursor<'_>) -> Result<Flagged<Items<FunctionStep>>, Fault>
         requires { NestsBlocks self.now.reading self.now.blocks (F.pre self.now.steps) (F.post self.now.steps) }
         ensures { Gives (with_it (map step_of)) (spec.steps_from self.now.reading.turns self.now.reading.depth (steps_within self.now.reading.turns self.now.reading.depth self.now.blocks) self.now.reading.turns (Ok []) tokens.old) result tokens.new }
     {
@@ -196,20 +196,20 @@ impl<F: Fn(Reading, &mut Tokens<'_>, usize) -> Result<Flagged<Items<FunctionStep
             tokens.separators()?;
             found = and_last(found, step)?;
         }
-        Err(Fault::Memory)
+        Err(Fault::OutOfTurns)
     }
 }
 
 /// The statements of a function, of which at most so many stand inside one another.
 pub fn steps(
     reading: Reading,
-    tokens: &mut Tokens<'_>,
+    tokens: &mut Cursor<'_>,
     blocks: usize,
 ) -> Result<Flagged<Items<FunctionStep>>, Fault>
     ensures { Gives (with_it (map step_of)) (steps_within reading.turns reading.depth blocks tokens.old) result tokens.new }
 {
     if blocks == 0 {
-        return Err(Fault::Memory);
+        return Err(Fault::OutOfTurns);
     }
     Blocks {
         reading,

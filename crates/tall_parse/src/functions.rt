@@ -13,7 +13,7 @@ use crate::statements::Reading;
 use sqlite_items::Items;
 use std::alloc::{AllocError, Global};
 use std::collections::BTreeSet;
-use tall_expr::cursor::Tokens;
+use tall_expr::cursor::Cursor;
 use tall_expr::flagged::{Flagged, and_last};
 use tall_grammar::faults::Fault;
 use tall_grammar::scripts::{Function, Script, Statement};
@@ -68,7 +68,7 @@ fn add_name(alloc: Global, names: &mut BTreeSet<String>, name: &str) -> Result<(
 
 impl Reading {
     /// A parameter: its name, or none where it is `~`.
-    fn parameter(&self, tokens: &mut Tokens<'_>) -> Result<Option<Name>, Fault>
+    fn parameter(&self, tokens: &mut Cursor<'_>) -> Result<Option<Name>, Fault>
         ensures { Gives itself (spec.parameter tokens.old) result tokens.new }
     {
         if tokens.is_name() {
@@ -81,7 +81,7 @@ impl Reading {
     /// A parameter, the sign behind it, and it with those before.
     fn and_parameter(
         &self,
-        tokens: &mut Tokens<'_>,
+        tokens: &mut Cursor<'_>,
         sign: &[u8],
         params: &mut Items<Option<Name>>,
     ) -> Result<(), Fault>
@@ -94,7 +94,7 @@ impl Reading {
     }
 
     /// The three parameters in their parentheses.
-    fn parameters(&self, tokens: &mut Tokens<'_>) -> Result<Items<Option<Name>>, Fault>
+    fn parameters(&self, tokens: &mut Cursor<'_>) -> Result<Items<Option<Name>>, Fault>
         ensures { Gives itself (spec.parameters tokens.old) result tokens.new }
     {
         let mut params = Items::new(self.alloc);
@@ -108,7 +108,7 @@ impl Reading {
     /// A function behind its name.
     fn function_rest(
         &self,
-        tokens: &mut Tokens<'_>,
+        tokens: &mut Cursor<'_>,
         line: u32,
         name: Name,
     ) -> Result<Flagged<Function>, Fault>
@@ -125,7 +125,7 @@ impl Reading {
     /// Takes the name of a function, which none before has, and adds it to theirs.
     fn new_name(
         &self,
-        tokens: &mut Tokens<'_>,
+        tokens: &mut Cursor<'_>,
         before: &mut BTreeSet<String>,
     ) -> Result<Name, Fault>
         ensures taken { (names : List (List ℕ)) → Holds before.old names → Gives itself (take_as (spec.new_name names) tokens.old) result tokens.new }
@@ -137,7 +137,7 @@ impl Reading {
     }
 
     /// The functions up to the end of the text, each with a name of its own.
-    fn functions(&self, tokens: &mut Tokens<'_>) -> Result<Flagged<Items<Function>>, Fault>
+    fn functions(&self, tokens: &mut Cursor<'_>) -> Result<Flagged<Items<Function>>, Fault>
         ensures { Gives (with_it (map routine_of)) (spec.functions_from self.now.turns self.now.depth self.now.turns [] (Ok []) tokens.old) result tokens.new }
     {
         let mut before = BTreeSet::new(self.alloc);
@@ -152,12 +152,12 @@ impl Reading {
             let next = self.function_rest(tokens, line, name)?;
             found = and_last(found, next)?;
         }
-        Err(Fault::Memory)
+        Err(Fault::OutOfTurns)
     }
 
     /// A script, or the line of the first expression in it that is higher than it may be. The tokens are read to their
     /// end, or up to the first one with which no script goes on, where the answer is `Fault::Stop`.
-    pub fn script(&self, tokens: &mut Tokens<'_>) -> Result<Flagged<Script>, Fault>
+    pub fn script(&self, tokens: &mut Cursor<'_>) -> Result<Flagged<Script>, Fault>
         ensures { Gives (with_it program_of) (spec.program self.now.turns self.now.depth tokens.old) result tokens.new }
     {
         tokens.skip_separators();

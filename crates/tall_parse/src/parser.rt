@@ -1,10 +1,10 @@
 //! From the bytes of a script to the script.
-ghost use Rattle.std.specs.Prelude.{◌≡◌, ◌≤◌, ◌+◌, length, IfSome, Some};
+ghost use Rattle.std.specs.Prelude.{◌≡◌, ◌≤◌, ◌+◌, length, IfSome, None, Some};
 ghost use Rattle.std.specs.List.{AllByRecursion};
 ghost use Rattle.tall_expr.specs.Gives.{IsSlice};
 ghost use Rattle.tall_grammar.specs.Lexemes.{lexemes_of};
 ghost use Rattle.tall_grammar.specs.Readers.{input};
-ghost use Rattle.tall_grammar.specs.Refusals.{Answer, Parses, Reads, last_line, longest};
+ghost use Rattle.tall_grammar.specs.Refusals.{Parses, Reads, Verdict, last_line, longest, too_deep};
 ghost use Rattle.tall_grammar.specs.ScriptReader as reader;
 ghost use Rattle.tall_grammar.specs.Verdicts.{said};
 ghost use Rattle.tall_parse.specs.Parsed.{seen};
@@ -13,7 +13,7 @@ use crate::depth::too_deep;
 use crate::places::line_before;
 use crate::statements::Reading;
 use std::alloc::Global;
-use tall_expr::Tokens;
+use tall_expr::Cursor;
 use tall_grammar::faults::Fault;
 use tall_grammar::{ParseFault, Script};
 use tall_lex::{LexFault, Token, lex_bytes};
@@ -24,10 +24,12 @@ const LONGEST: usize = 1_048_576;
 /// More than the expressions and the blocks that stand inside one another where no more than 64 brackets and blocks are open.
 const DEPTH: usize = 66;
 
-/// The script that tokens are whose brackets and blocks are not too deep, or what the reader refuses.
+/// The script that tokens are whose brackets and blocks are not too deep, or what the reader refuses. The turns are more
+/// than the tokens, and the depth is above the limit, so neither runs out.
 fn read(alloc: Global, text: &[u8], tokens: &[Token]) -> Result<Script, ParseFault>
     requires short { length text.now ≤ longest }
     requires slices { AllByRecursion (IsSlice text.now) tokens.now }
+    requires flat { too_deep (lexemes_of text.now tokens.now) ≡ None }
     ensures { IfSome (seen result) (λ answer. said (last_line text.now) (lexemes_of text.now tokens.now) (reader.program (length tokens.now + 2) 66 (input (lexemes_of text.now tokens.now) 1)) ≡ Some answer) }
 {
     let reading = Reading {
@@ -35,12 +37,13 @@ fn read(alloc: Global, text: &[u8], tokens: &[Token]) -> Result<Script, ParseFau
         turns: tokens.len() + 2,
         depth: DEPTH,
     };
-    match reading.script(&mut Tokens::new(text, tokens)) {
+    match reading.script(&mut Cursor::new(text, tokens)) {
         Ok(Ok(script)) => Ok(script),
         Ok(Err(high)) => Err(ParseFault::TooDeep { line: high.line }),
         Err(Fault::Stop(left)) => Err(ParseFault::Syntax {
             line: line_before(text, tokens, left),
         }),
+        Err(Fault::OutOfTurns) => unreachable!(),
         Err(Fault::Memory) => Err(ParseFault::Memory),
     }
 }
@@ -51,7 +54,7 @@ fn parse_tokens(alloc: Global, text: &[u8], tokens: &[Token]) -> Result<Script, 
     requires short { length text.now ≤ longest }
     requires slices { AllByRecursion (IsSlice text.now) tokens.now }
     ensures sound { IfSome (seen result) (Reads (last_line text.now) (lexemes_of text.now tokens.now)) }
-    ensures complete { (answer : Answer) → Reads (last_line text.now) (lexemes_of text.now tokens.now) answer → IfSome (seen result) (λ found. found ≡ answer) }
+    ensures complete { (answer : Verdict) → Reads (last_line text.now) (lexemes_of text.now tokens.now) answer → IfSome (seen result) (λ found. found ≡ answer) }
 {
     match too_deep(text, tokens) {
         Some(line) => Err(ParseFault::TooDeep { line }),
@@ -70,7 +73,7 @@ fn parse_tokens(alloc: Global, text: &[u8], tokens: &[Token]) -> Result<Script, 
 #[tactic(auto, using(crate::proofs::Told::long_sound, crate::proofs::Told::long_complete, crate::proofs::Told::bad_sound, crate::proofs::Told::bad_complete, crate::proofs::Told::tokens_sound, crate::proofs::Told::tokens_complete, crate::proofs::Spans::are_slices))]
 pub fn parse(alloc: Global, text: &[u8]) -> Result<Script, ParseFault>
     ensures sound { IfSome (seen result) (Parses text.now) }
-    ensures complete { (answer : Answer) → Parses text.now answer → IfSome (seen result) (λ found. found ≡ answer) }
+    ensures complete { (answer : Verdict) → Parses text.now answer → IfSome (seen result) (λ found. found ≡ answer) }
 {
     if text.len() > LONGEST {
         return Err(ParseFault::TooLong);

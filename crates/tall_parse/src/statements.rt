@@ -1,7 +1,7 @@
 //! The statements of a script.
 ghost use Rattle.std.specs.Prelude.{◌≡◌, map, Ok, []};
 ghost use Rattle.tall_grammar.specs.Kept.{with_it};
-ghost use Rattle.tall_parse.specs.ReaderParts.{args_on};
+ghost use Rattle.tall_parse.specs.ReaderParts.{args_on, gather_to};
 ghost use Rattle.tall_grammar.specs.Readers.{take_text, is_name};
 ghost use Rattle.tall_expr.specs.Gives.{Gives, itself};
 ghost use Rattle.tall_grammar.specs.ScriptReader as spec;
@@ -9,7 +9,7 @@ ghost use Rattle.tall_grammar.specs.Views.{tree_of, arg_of, body_of, entry_of};
 
 use sqlite_items::Items;
 use std::alloc::Global;
-use tall_expr::cursor::Tokens;
+use tall_expr::cursor::Cursor;
 use tall_expr::flagged::{Flagged, and_last, settled};
 use tall_expr::grammar;
 use tall_grammar::expressions::{Arg, Expr};
@@ -17,7 +17,7 @@ use tall_grammar::faults::Fault;
 use tall_grammar::scripts::{Form, Statement};
 use tall_value::Name;
 
-/// How a script is read. Where a number runs out the answer is `Fault::Memory`.
+/// How a script is read. Where a number runs out the answer is `Fault::OutOfTurns`.
 #[derive(Clone, Copy)]
 pub struct Reading {
     /// Where what is read is kept.
@@ -30,7 +30,7 @@ pub struct Reading {
 
 impl Reading {
     /// An expression on a line.
-    pub fn expr(&self, tokens: &mut Tokens<'_>, line: u32) -> Result<Flagged<Expr>, Fault>
+    pub fn expr(&self, tokens: &mut Cursor<'_>, line: u32) -> Result<Flagged<Expr>, Fault>
         ensures { Gives (with_it tree_of) (spec.expr_on self.now.turns self.now.depth line tokens.old) result tokens.new }
     {
         let kept = grammar::expr(self.alloc, tokens, self.turns, self.depth, line)?;
@@ -38,7 +38,7 @@ impl Reading {
     }
 
     /// The arguments of a call, behind its parenthesis.
-    fn args(&self, tokens: &mut Tokens<'_>, line: u32) -> Result<Flagged<Items<Arg>>, Fault>
+    fn args(&self, tokens: &mut Cursor<'_>, line: u32) -> Result<Flagged<Items<Arg>>, Fault>
         ensures { Gives (with_it (map arg_of)) (args_on self.now.turns self.now.depth line tokens.old) result tokens.new }
     {
         let kept = grammar::args(self.alloc, tokens, self.turns, self.depth, line)?;
@@ -46,14 +46,14 @@ impl Reading {
     }
 
     /// A name.
-    pub fn name(&self, tokens: &mut Tokens<'_>) -> Result<Name, Fault>
+    pub fn name(&self, tokens: &mut Cursor<'_>) -> Result<Name, Fault>
         ensures { Gives itself (take_text is_name tokens.old) result tokens.new }
     {
         Ok(Name::of(self.alloc, tokens.take_name()?)?)
     }
 
     /// Names, with a comma or without one between two.
-    fn names(&self, tokens: &mut Tokens<'_>) -> Result<Items<Name>, Fault>
+    fn names(&self, tokens: &mut Cursor<'_>) -> Result<Items<Name>, Fault>
         ensures { Gives itself (spec.names self.now.turns self.now.depth tokens.old) result tokens.new }
     {
         let mut found = Items::new(self.alloc);
@@ -65,10 +65,10 @@ impl Reading {
             tokens.skip_comma();
             found.push(self.name(tokens)?)?;
         }
-        Err(Fault::Memory)
+        Err(Fault::OutOfTurns)
     }
 
-    fn assignment(&self, tokens: &mut Tokens<'_>, line: u32) -> Result<Flagged<Form>, Fault>
+    fn assignment(&self, tokens: &mut Cursor<'_>, line: u32) -> Result<Flagged<Form>, Fault>
         ensures { Gives (with_it body_of) (spec.assignment self.now.turns self.now.depth line tokens.old) result tokens.new }
     {
         let name = self.name(tokens)?;
@@ -79,7 +79,7 @@ impl Reading {
         }
     }
 
-    fn property_setting(&self, tokens: &mut Tokens<'_>, line: u32) -> Result<Flagged<Form>, Fault>
+    fn property_setting(&self, tokens: &mut Cursor<'_>, line: u32) -> Result<Flagged<Form>, Fault>
         ensures { Gives (with_it body_of) (spec.property_setting self.now.turns self.now.depth line tokens.old) result tokens.new }
     {
         let name = self.name(tokens)?;
@@ -96,7 +96,22 @@ impl Reading {
         }
     }
 
-    fn gathering(&self, tokens: &mut Tokens<'_>, line: u32) -> Result<Flagged<Form>, Fault>
+    /// A gather of the names, behind its parenthesis.
+    fn gather_to(
+        &self,
+        tokens: &mut Cursor<'_>,
+        line: u32,
+        names: Items<Name>,
+    ) -> Result<Flagged<Form>, Fault>
+        ensures { Gives (with_it body_of) (gather_to self.now.turns self.now.depth line names tokens.old) result tokens.new }
+    {
+        match self.args(tokens, line)? {
+            Ok(args) => Ok(Ok(Form::Gather { names, args })),
+            Err(high) => Ok(Err(high)),
+        }
+    }
+
+    fn gathering(&self, tokens: &mut Cursor<'_>, line: u32) -> Result<Flagged<Form>, Fault>
         ensures { Gives (with_it body_of) (spec.gathering self.now.turns self.now.depth line tokens.old) result tokens.new }
     {
         tokens.expect_sign(b"[")?;
@@ -105,13 +120,10 @@ impl Reading {
         tokens.expect_sign(b"=")?;
         tokens.expect_name(b"gather")?;
         tokens.expect_sign(b"(")?;
-        match self.args(tokens, line)? {
-            Ok(args) => Ok(Ok(Form::Gather { names, args })),
-            Err(high) => Ok(Err(high)),
-        }
+        self.gather_to(tokens, line, names)
     }
 
-    fn bare_expression(&self, tokens: &mut Tokens<'_>, line: u32) -> Result<Flagged<Form>, Fault>
+    fn bare_expression(&self, tokens: &mut Cursor<'_>, line: u32) -> Result<Flagged<Form>, Fault>
         ensures { Gives (with_it body_of) (spec.bare_expression self.now.turns self.now.depth line tokens.old) result tokens.new }
     {
         match self.expr(tokens, line)? {
@@ -120,7 +132,7 @@ impl Reading {
         }
     }
 
-    fn form(&self, tokens: &mut Tokens<'_>, line: u32) -> Result<Flagged<Form>, Fault>
+    fn form(&self, tokens: &mut Cursor<'_>, line: u32) -> Result<Flagged<Form>, Fault>
         ensures { Gives (with_it body_of) (spec.body self.now.turns self.now.depth line tokens.old) result tokens.new }
     {
         if tokens.begins_assignment() {
@@ -134,7 +146,7 @@ impl Reading {
         }
     }
 
-    fn statement(&self, tokens: &mut Tokens<'_>) -> Result<Flagged<Statement>, Fault>
+    fn statement(&self, tokens: &mut Cursor<'_>) -> Result<Flagged<Statement>, Fault>
         ensures { Gives (with_it entry_of) (spec.on_line (spec.statement self.now.turns self.now.depth) tokens.old) result tokens.new }
     {
         let line = tokens.line();
@@ -147,7 +159,7 @@ impl Reading {
     }
 
     /// The statements up to the first function, or to the end of the text.
-    pub fn statements(&self, tokens: &mut Tokens<'_>) -> Result<Flagged<Items<Statement>>, Fault>
+    pub fn statements(&self, tokens: &mut Cursor<'_>) -> Result<Flagged<Items<Statement>>, Fault>
         ensures { Gives (with_it (map entry_of)) (spec.statements_from self.now.turns self.now.depth self.now.turns (Ok []) tokens.old) result tokens.new }
     {
         let mut found = Ok(Items::new(self.alloc));
@@ -157,6 +169,6 @@ impl Reading {
             }
             found = and_last(found, self.statement(tokens)?)?;
         }
-        Err(Fault::Memory)
+        Err(Fault::OutOfTurns)
     }
 }

@@ -22,7 +22,7 @@ module _ (files : Files) (name : List ℕ) where
   no_other absent _ (no_script h) = refl
   no_other absent _ (of_script h p) = none_is_some (sym absent ∙ h)
 
-  only_this : (held : List ℕ) (v : parse.Answer) → file_in files name ≡ Some held → parse.Parses held v → (other : Answer) → Answers files name other → other ≡ answer_of files v
+  only_this : (held : List ℕ) (v : parse.Verdict) → file_in files name ≡ Some held → parse.Parses held v → (other : Answer) → Answers files name other → other ≡ answer_of files v
   only_this held v there p _ (no_script h) = none_is_some (sym h ∙ there)
   only_this held v there p _ (of_script {bytes} {a} h q) =
       ap (answer_of files) (answer_alone held a v (subst (λ bs. parse.Parses bs a) (some_injective bytes held (sym h ∙ there)) q) p)
@@ -39,7 +39,7 @@ module _ (files : Files) (name : List ℕ) where
   no_more file absent _ (allowed.no_script h) = refl
   no_more file absent _ (allowed.of_script h p) = none_is_some (sym absent ∙ h)
 
-  only_so_often : (file held : List ℕ) (v : parse.Answer) → file_in files name ≡ Some held → parse.Parses held v → (other : ℕ) → IsAllowed files name file other
+  only_so_often : (file held : List ℕ) (v : parse.Verdict) → file_in files name ≡ Some held → parse.Parses held v → (other : ℕ) → IsAllowed files name file other
       → other ≡ allowed_of files name v file
   only_so_often file held v there p _ (allowed.no_script h) = none_is_some (sym h ∙ there)
   only_so_often file held v there p _ (allowed.of_script {bytes} {a} h q) =

@@ -25,7 +25,7 @@ ended text None = record { status = done; text = text; line = [] }
 ended text (Some stop) = record { status = fault; text = text; line = stop_line stop }
 
 -- of what the bytes of a script are
-abbrev pub answer_of : Files → parse.Answer → Answer
+abbrev pub answer_of : Files → parse.Verdict → Answer
 answer_of files (parse.read p) = ended (run files p).text (run files p).ending
 answer_of files parse.too_long = refused too_long_text
 answer_of files (parse.bad_token line place) = refused (bad_token_text line place)
@@ -35,4 +35,4 @@ answer_of files (parse.syntax_at line) = refused (syntax_text line)
 -- of the script of a name, which may be absent
 pub data Answers (files : Files) (name : List ℕ) : Answer → Type 0 where
   no_script : file_in files name ≡ None → Answers files name (refused (no_script_text name))
-  of_script : {bytes : List ℕ} {a : parse.Answer} → file_in files name ≡ Some bytes → parse.Parses bytes a → Answers files name (answer_of files a)
+  of_script : {bytes : List ℕ} {a : parse.Verdict} → file_in files name ≡ Some bytes → parse.Parses bytes a → Answers files name (answer_of files a)

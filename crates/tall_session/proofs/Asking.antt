@@ -13,7 +13,7 @@ use Rattle.tall_session.specs.declared.outcome.Outcome.{Outcome}
 use Rattle.tall_session.specs.declared.outcome.Outcome.TheVariants.{Fault, Memory}
 
 -- what bytes are as a script, so many of them are as are read
-front_parses : (bytes : List ℕ) (what : parse.Answer) → parse.Parses bytes what → parse.Parses (take 1048577 bytes) what
+front_parses : (bytes : List ℕ) (what : parse.Verdict) → parse.Parses bytes what → parse.Parses (take 1048577 bytes) what
 front_parses bytes _ (parse.is_too_long long) =
     parse.is_too_long (let known = length-take 1048577 bytes in omega (arith, known, long))
 front_parses bytes what (parse.has_bad_token fits bad) =
@@ -22,9 +22,9 @@ front_parses bytes what (parse.has_tokens fits tokens reads) =
     subst (λ l. parse.Parses l what) (sym (take_all 1048577 bytes (omega (arith, fits)))) (parse.has_tokens fits tokens reads)
 
 -- what a text asks for, its file does
-pub file_asks : {A : Type 0} (left : Option (List ℕ)) (text : List ℕ) (found : Option A) (due : parse.Answer → A) → IfSome left (λ bytes. text ≡ take 1048577 bytes)
-    → ((what : parse.Answer) → parse.Parses text what → IfSome found (λ task. task ≡ due what))
-    → IfSome left (λ bytes. (what : parse.Answer) → parse.Parses bytes what → IfSome found (λ task. task ≡ due what))
+pub file_asks : {A : Type 0} (left : Option (List ℕ)) (text : List ℕ) (found : Option A) (due : parse.Verdict → A) → IfSome left (λ bytes. text ≡ take 1048577 bytes)
+    → ((what : parse.Verdict) → parse.Parses text what → IfSome found (λ task. task ≡ due what))
+    → IfSome left (λ bytes. (what : parse.Verdict) → parse.Parses bytes what → IfSome found (λ task. task ≡ due what))
 file_asks None text found due read told = tt
 file_asks (Some bytes) text found due read told =
     λ what parses. told what (subst (λ l. parse.Parses l what) (sym read) (front_parses bytes what parses))

@@ -16,7 +16,7 @@ IsOpen held name left = IfSome held (λ files. IsSomeAnd (file_in files name) (�
 
 -- what was found is what the bytes ask for
 abbrev IsFound : Option (List ℕ) → Option (Result script.Task f.Fault) → Type 0
-IsFound left found = IfSome left (λ bytes. (what : parse.Answer) → parse.Parses bytes what → IfSome found (λ task. task ≡ asked what))
+IsFound left found = IfSome left (λ bytes. (what : parse.Verdict) → parse.Parses bytes what → IfSome found (λ task. task ≡ asked what))
 
 -- what holds of all that the script comes to
 abbrev OfAll : (Files → Outcome → Type 0) → Option Files → List ℕ → Type 0

@@ -25,7 +25,7 @@ command (program ∷ script ∷ more ∷ words) = None
 -- ---- outcomes
 
 -- what there is to do of what the script's bytes are, or their fault
-abbrev pub asked : parse.Answer → Result Task f.Fault
+abbrev pub asked : parse.Verdict → Result Task f.Fault
 asked (parse.read s) = Ok (task_of s.statements)
 asked parse.too_long = Err fault.TooLong
 asked (parse.bad_token line place) = Err (fault.BadToken line place)
@@ -41,7 +41,7 @@ task_outcome files (Err other) = Fault other
 -- of the script's file, which is there or not
 abbrev pub ScriptComesTo : Files → Option (List ℕ) → Outcome → Type 0
 ScriptComesTo files None due = due ≡ Fault fault.NoScript
-ScriptComesTo files (Some bytes) due = (what : parse.Answer) × parse.Parses bytes what × (due ≡ task_outcome files (asked what))
+ScriptComesTo files (Some bytes) due = (what : parse.Verdict) × parse.Parses bytes what × (due ≡ task_outcome files (asked what))
 
 -- of the words
 abbrev pub CommandComesTo : Files → Option (List ℕ) → Outcome → Type 0
@@ -125,7 +125,7 @@ IsMissed k before after = Unit {0}
 
 -- some bytes, as many as came of the file that was opened last, ask for this as a script
 abbrev pub SomeAsk : Result Task f.Fault → Counts → Type 0
-SomeAsk task after = (bytes : List ℕ) × (what : parse.Answer) × (length bytes ≡ after.came) × parse.Parses bytes what × (asked what ≡ task)
+SomeAsk task after = (bytes : List ℕ) × (what : parse.Verdict) × (length bytes ≡ after.came) × parse.Parses bytes what × (asked what ≡ task)
 
 abbrev pub IsFaultExplained : f.Fault → Counts → Counts → Type 0
 IsFaultExplained fault.NoScript before after = Rose before.misses after.misses

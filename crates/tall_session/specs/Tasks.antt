@@ -46,7 +46,7 @@ IsOfScript outcome = IsOfBytes outcome
 
 -- these bytes ask for this as a script
 abbrev pub IsAsked : List ℕ → Result script.Task f.Fault → Type 0
-IsAsked bytes task = (what : parse.Answer) × parse.Parses bytes what × (asked what ≡ task)
+IsAsked bytes task = (what : parse.Verdict) × parse.Parses bytes what × (asked what ≡ task)
 
 -- as many bytes came as a script has that asks for the task, or the outcome is explained
 abbrev pub IsReadExplained : Result Task Outcome → Counts → Counts → Type 0

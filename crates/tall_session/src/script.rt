@@ -1,7 +1,7 @@
 //! What a script does: read from its file, parsed, and compared with the statements that run today.
 
 ghost use Rattle.std.specs.Prelude.{◌≡◌, codes, map, IfErr, IfSome, Err, option_map};
-ghost use Rattle.tall_grammar.specs.Refusals.{Answer, Parses};
+ghost use Rattle.tall_grammar.specs.Refusals.{Parses, Verdict};
 ghost use Rattle.tall_grammar.specs.Views.{arg_of, args_of, entry_of, program_of, tree_of};
 ghost use Rattle.tall_parse.specs.Parsed.{seen};
 ghost use Rattle.tall_store.specs.Causes.{IsLater, shelf_counts};
@@ -250,7 +250,7 @@ fn refusal(fault: ParseFault) -> Outcome
 
 /// What bytes ask for as a script, or why they ask for nothing.
 fn parsed_task(alloc: Global, text: &[u8]) -> Result<Task, Outcome>
-    ensures told { (what : Answer) → Parses text.now what → IfSome (seen_read result) (λ task. task ≡ asked what) }
+    ensures told { (what : Verdict) → Parses text.now what → IfSome (seen_read result) (λ task. task ≡ asked what) }
     ensures known { IfSome (seen_read result) (IsAsked text.now) }
     ensures bytes { IfErr result IsOfBytes }
 {
@@ -266,7 +266,7 @@ pub(crate) fn read_task<S: Shelf>(alloc: Global, shelf: &mut S) -> Result<Task, 
     ensures held { S.held shelf.new ≡ S.held shelf.old }
     ensures opened { S.opened shelf.new ≡ S.opened shelf.old }
     ensures later { IsLater (shelf_counts S.Shelf shelf.old) (shelf_counts S.Shelf shelf.new) }
-    ensures told { IfSome (S.left shelf.old) (λ bytes. (what : Answer) → Parses bytes what → IfSome (seen_read result) (λ task. task ≡ asked what)) }
+    ensures told { IfSome (S.left shelf.old) (λ bytes. (what : Verdict) → Parses bytes what → IfSome (seen_read result) (λ task. task ≡ asked what)) }
     ensures explained { S.came shelf.old ≡ 0 → IsReadExplained result (shelf_counts S.Shelf shelf.old) (shelf_counts S.Shelf shelf.new) }
     ensures script { IfErr result IsOfScript }
 {

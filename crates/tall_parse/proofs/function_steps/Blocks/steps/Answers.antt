@@ -1,9 +1,9 @@
-use Rattle.std.proofs.Common.{rules, arith, map}
+use Rattle.std.proofs.Common.{rules, refl, arith, map}
 use Rattle.std.proofs.lemmas.Grind.{common_steps}
 use Rattle.tall_grammar.specs.Kept.{with_it}
 use Rattle.tall_grammar.specs.ScriptReader.{steps_from, steps_within}
 use Rattle.tall_grammar.specs.Views.{step_of}
-use Rattle.tall_expr.proofs.Turns.{one_more, with_last}
+use Rattle.tall_expr.proofs.Turns.{one_more, run_out, with_last}
 use Rattle.tall_parse.proofs.function_steps.Blocks.steps.Goals as goal
 
 pub returns-then-not-begins_step : goal.returns-then-not-begins_step
@@ -30,3 +30,7 @@ loop-turn-preserved g c =
     let e = one_more (λ n. steps_from c.args.self.now.reading.turns c.args.self.now.reading.depth (steps_within c.args.self.now.reading.turns c.args.self.now.reading.depth c.args.self.now.blocks) n (with_it (map step_of) c.loop-turn.found) c.loop-turn.tokens) _ c.loop-turn._turn c.loop-turn-test.true c.loop-turn.invariant in
     let l = with_last step_of c.loop-turn.found c.in_ok-step.step in
     first_of (search rules, grind (arith, common_steps))
+
+pub returns : goal.returns
+unfolding steps_from
+returns g c = λ _. run_out (λ n. steps_from c.args.self.now.reading.turns c.args.self.now.reading.depth (steps_within c.args.self.now.reading.turns c.args.self.now.reading.depth c.args.self.now.blocks) n (with_it (map step_of) c.loop-turn.found) c.loop-turn.tokens) c.args.self.now.reading.turns c.loop-turn._turn (omega arith) refl c.loop-turn.invariant

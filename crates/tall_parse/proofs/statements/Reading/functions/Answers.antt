@@ -1,10 +1,10 @@
-use Rattle.std.proofs.Common.{rules, arith, map, ℕ, List, ◌∷◌}
+use Rattle.std.proofs.Common.{rules, refl, arith, map, ℕ, List, ◌∷◌}
 use Rattle.std.proofs.lemmas.Grind.{common_steps}
 use Rattle.std.proofs.lemmas.Result.{IfOk-at_ok}
 use Rattle.tall_grammar.specs.Kept.{with_it}
 use Rattle.tall_grammar.specs.ScriptReader.{functions_from}
 use Rattle.tall_grammar.specs.Views.{routine_of}
-use Rattle.tall_expr.proofs.Turns.{one_more, with_last}
+use Rattle.tall_expr.proofs.Turns.{one_more, run_out, with_last}
 use Rattle.tall_parse.specs.FunctionNames.{Holds}
 use Rattle.tall_parse.proofs.statements.Reading.functions.Goals as goal
 
@@ -45,3 +45,7 @@ loop-turn-preserved c =
     let l = with_last routine_of c.loop-turn.found c.in_ok-next.next in
     let added = IfOk-at_ok (λ name. (names : List (List ℕ)) → Holds c.loop-turn.before names → Holds c.new_name.new.before (name ∷ names)) c.in_ok-name.was c.new_name.ensures.added in
     (c.in_ok-name.name ∷ c.loop-turn.invariant.0, added c.loop-turn.invariant.0 held, first_of (search rules, grind (arith, common_steps)))
+
+pub returns : goal.returns
+unfolding functions_from
+returns c = λ _. run_out (λ n. functions_from c.args.self.now.turns c.args.self.now.depth n c.loop-turn.invariant.0 (with_it (map routine_of) c.loop-turn.found) c.loop-turn.tokens) c.args.self.now.turns c.loop-turn._turn (omega arith) refl c.loop-turn.invariant.2

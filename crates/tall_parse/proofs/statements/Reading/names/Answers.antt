@@ -1,7 +1,7 @@
-use Rattle.std.proofs.Common.{rules, arith}
+use Rattle.std.proofs.Common.{rules, refl, arith}
 use Rattle.std.proofs.lemmas.Grind.{common_steps}
 use Rattle.tall_grammar.specs.Readers.{listed_from, is_name, take_text}
-use Rattle.tall_expr.proofs.Turns.{one_more}
+use Rattle.tall_expr.proofs.Turns.{one_more, run_out}
 use Rattle.tall_parse.proofs.statements.Reading.names.Goals as goal
 
 pub returns-then-not-goes_on_with_name : goal.returns-then-not-goes_on_with_name
@@ -21,3 +21,7 @@ unfolding listed_from
 loop-turn-preserved c =
     let e = one_more (λ n. listed_from is_name (take_text is_name) n c.loop-turn.found c.loop-turn.tokens) _ c.loop-turn._turn c.loop-turn-test.true c.loop-turn.invariant in
     first_of (search rules, grind (arith, common_steps))
+
+pub returns : goal.returns
+unfolding listed_from
+returns c = λ _. run_out (λ n. listed_from is_name (take_text is_name) n c.loop-turn.found c.loop-turn.tokens) c.args.self.now.turns c.loop-turn._turn (omega arith) refl c.loop-turn.invariant

@@ -1,6 +1,6 @@
 use Rattle.std.proofs.Common.{◌≡◌, length}
 use Rattle.tall_grammar.specs.Readers.{without_separators}
-use Rattle.tall_expr.proofs.cursor.Tokens.skip_separators.Given as goal
+use Rattle.tall_expr.proofs.cursor.Cursor.skip_separators.Given as goal
 
 -- what is left has the same rest behind its separators
 abbrev pub invariant-loop-self : goal.invariant-loop-self
