@@ -211,6 +211,18 @@ closed_push bytes fields ends bytes2 fields2 ends2 text row h t b f e =
       fields = rw (e, count) (last-append 0 ends (length (cut_from 0 fields2 bytes2)));
     }
 
+-- one field alone
+pub field_pushed : (row : Fields) (f bytes bytes2 fields fields2 : List ℕ) (size : ℕ) → length row ≡ 1 → f ≡ get_or row 0 [] → bytes2 ≡ bytes ++ f → size ≡ length bytes2 → fields2 ≡ fields ++ size ∷ []
+    → (joined row ≡ f) × (fields2 ≡ fields ++ ends_from (length bytes) row)
+unfolding joined ends_from
+field_pushed [] f bytes bytes2 fields fields2 size one e b n p = absurd (omega (arith, one))
+field_pushed (g ∷ []) f bytes bytes2 fields fields2 size one e b n p =
+    let width : length bytes2 ≡ length bytes + length f = ap length b ∙ length-append bytes f in
+    let same = ap length e in
+    let end : size ≡ length bytes + length g = omega arith in
+    (append-nil g ∙ sym e, p ∙ ap (λ m. fields ++ m ∷ []) end)
+field_pushed (g ∷ h ∷ rest) f bytes bytes2 fields fields2 size one e b n p = absurd (omega (arith, one))
+
 -- no record yet
 pub closed_start : (bytes fields ends : List ℕ) → bytes ≡ [] → fields ≡ [] → ends ≡ [] → Closed bytes fields ends
 unfolding Rising last_end cut_from

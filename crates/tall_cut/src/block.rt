@@ -57,10 +57,27 @@ impl Block {
         ensures count { OnOk result (length self.new.ends.items ≡ length self.old.ends.items + 1) }
         ensures records { OnOk result (block_records self.new ≡ block_records self.old ++ fields_of row.old ∷ []) }
     {
+        if row.len() == 1 {
+            return self.add_field(row);
+        }
         close(row)?;
         let from = self.bytes.len();
         self.bytes.extend_from_slice(row.as_slice())?;
         add_ends(&mut self.fields, row, from, self.bytes.len())?;
+        self.ends.push(self.fields.len())?;
+        Ok(())
+    }
+
+    // Adds a record of one field: nothing has to be known of bytes behind it.
+    fn add_field(&mut self, row: &ByteRecord) -> Result<(), AllocError>
+        requires closed { IsClosed self.old }
+        requires one { length (fields_of row.now) ≡ 1 }
+        ensures closed { OnOk result (IsClosed self.new) }
+        ensures count { OnOk result (length self.new.ends.items ≡ length self.old.ends.items + 1) }
+        ensures records { OnOk result (block_records self.new ≡ block_records self.old ++ fields_of row.now ∷ []) }
+    {
+        self.bytes.extend_from_slice(field_at(row, 0))?;
+        self.fields.push(self.bytes.len())?;
         self.ends.push(self.fields.len())?;
         Ok(())
     }
@@ -107,6 +124,7 @@ fn add_ends(
     ensures ends { OnOk result (ends.new.items ≡ ends.old.items ++ ends_from from (fields_of row.now)) }
     ensures all { OnOk result (from + length (joined (fields_of row.now)) ≡ to) }
 {
+    ends.reserve(row.len())?;
     let mut end = from;
     for k in 0..row.len() {
         let width = field_at(row, k).len();
@@ -114,7 +132,7 @@ fn add_ends(
             return Err(AllocError);
         }
         end += width;
-        ends.push(end)?;
+        ends.push_reserved(end);
     }
     if end == to { Ok(()) } else { Err(AllocError) }
 }

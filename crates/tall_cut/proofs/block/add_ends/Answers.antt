@@ -7,7 +7,8 @@ pub loop-k-init : goal.loop-k-init
 loop-k-init c = record {
   inside = c.requires;
   end = end_start c.args.from;
-  ends = ends_start c.args.from c.args.ends.now.items;
+  room = omega (arith, c.in_ok-reserve.ensures.ok);
+  ends = ends_start c.args.from c.reserve.new.self.items;
 }
 
 pub loop-k-preserved : goal.loop-k-preserved
@@ -20,5 +21,6 @@ loop-k-preserved c =
     record {
       inside = omega arith;
       end = end_next fields c.loop-k.k _ _ _ here c.loop-k.invariant.end width;
-      ends = ends_next fields c.loop-k.k _ _ _ _ _ _ here c.loop-k.invariant.end width c.loop-k.invariant.ends c.in_ok-push.ensures.items;
+      room = omega arith;
+      ends = ends_next fields c.loop-k.k _ _ _ _ _ _ here c.loop-k.invariant.end width c.loop-k.invariant.ends c.push_reserved.ensures.items;
     }
