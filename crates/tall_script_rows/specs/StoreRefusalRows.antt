@@ -34,6 +34,24 @@ option_without_a_value : ending_of [] (script (
 unfolding whole_runs
 option_without_a_value = refl
 
+-- tabularTextDatastore('a.csv', 'ReadSize', 5000000000)
+block_above_all_numbers : ending_of [] (script (
+    silent 1 (sets "ds" (call "tabularTextDatastore" (text "a.csv" ∷ text "ReadSize" ∷ number 5000000000 ∷ []))) ∷ [])) ≡ at_line 1 bad_argument
+unfolding whole_runs
+block_above_all_numbers = refl
+
+-- tabularTextDatastore('a.csv', 'ReadSize', 2147483648)
+block_too_large : ending_of [] (script (
+    silent 1 (sets "ds" (call "tabularTextDatastore" (text "a.csv" ∷ text "ReadSize" ∷ number 2147483648 ∷ []))) ∷ [])) ≡ at_line 1 bad_argument
+unfolding whole_runs
+block_too_large = refl
+
+-- tabularTextDatastore('a.csv', 'ReadSize', 2147483647)
+largest_block : ending_of [] (script (
+    silent 1 (sets "ds" (call "tabularTextDatastore" (text "a.csv" ∷ text "ReadSize" ∷ number 2147483647 ∷ []))) ∷ [])) ≡ at_line 1 (no_file (codes "a.csv"))
+unfolding whole_runs
+largest_block = refl
+
 -- tabularTextDatastore('a.csv', 1, 2)
 name_that_is_no_text : ending_of [] (script (
     silent 1 (sets "ds" (call "tabularTextDatastore" (text "a.csv" ∷ number 1 ∷ number 2 ∷ []))) ∷ [])) ≡ at_line 1 bad_argument
