@@ -22,6 +22,4 @@ pub use table::{Table, Value};
 pub use tall_dense::{Integer, OpFault, Operand, Stored, Texts, Values};
 
 #[cfg(test)]
-mod row_tests;
-#[cfg(test)]
 mod tests;

@@ -1,6 +1,7 @@
 -- The class of an operator's result, or why its operands' classes are refused. MathWorks, Integers: integers combine
--- only with integers of their class and with scalar doubles; a logical counts as 0 or 1. A flag says that an operand is
--- a scalar. The cases stand in the order of the rows of docs/LANGUAGE.md, operators.
+-- only with integers of their class and with scalar doubles. That a logical beside them counts as 0 or 1 is the project's
+-- own rule. A flag says that an operand is a scalar. The cases stand in the order of the rows of docs/LANGUAGE.md,
+-- operators.
 use Rattle.std.specs.Prelude.{Bool, true, false, ◌&&◌, if◌then◌else◌, Result, Ok, Err}
 use Rattle.tall_value.specs.declared.class.Class.{Class}
 use Rattle.tall_value.specs.declared.class.IntKind.{IntKind}

@@ -1,4 +1,5 @@
--- The rows of a table by a key, and what a method gives of each group's data, in row order. MathWorks, groupsummary.
+-- The rows of a table by a key, and what a method gives of each group's data, in row order. MathWorks, groupsummary; the
+-- method 'sumnative' is the project's own.
 -- Groups are ascending by key; all NaN keys together are one group, last. Data that are NaN are passed over, and
 -- 'nummissing' counts them.
 use Rattle.std.specs.Prelude.{Bool, if◌then◌else◌, Option, None, Some, Result, Ok, Err, List, [], ◌∷◌, ◌++◌, map}

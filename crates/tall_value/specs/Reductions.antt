@@ -1,5 +1,6 @@
--- Functions of all cells of a column. MathWorks, sum, min, max, any, all, nnz: the double sum is the exact total, the
--- native sum of an integer class is kept in the class at each row, in row order.
+-- Functions of all cells of a column. MathWorks, sum, min, max, any, all, nnz. By the project's own rules
+-- (docs/LANGUAGE.md) the double sum is the exact total, the native sum of an integer class is kept in the class at each
+-- row, in row order, and a minimum or maximum of no rows, or of NaN alone, is a fault.
 use Rattle.std.specs.Prelude.{ℤ, pos, ◌+ℤ◌, Bool, true, false, not, if◌then◌else◌, Option, None, Some, Result, Ok, Err, List, [], ◌∷◌, length}
 use Rattle.std.specs.List.{filter, filter_map, list_any, list_all}
 use Rattle.std.specs.Ordering.{is_lt}

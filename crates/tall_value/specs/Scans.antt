@@ -1,4 +1,5 @@
--- Functions that give each row the fold of the rows up to it. MathWorks, cumsum, cummin, cummax.
+-- Functions that give each row the fold of the rows up to it. MathWorks, cumsum, cummin, cummax. That a sum of integers is
+-- kept in the class at each row is the project's own rule (docs/LANGUAGE.md).
 use Rattle.std.specs.Prelude.{ℤ, ℕ, pos, ◌+ℤ◌, Option, None, Some, Result, Ok, Err, List, [], ◌∷◌}
 use Rattle.tall_int.specs.Numbers.{nearest}
 use Rattle.tall_int.specs.Doubles.{whole_add}
