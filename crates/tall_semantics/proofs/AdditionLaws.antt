@@ -198,30 +198,34 @@ get_there (x ∷ xs) (suc i) l = get_there xs i (omega (arith, l))
 lower_decided : (vs : List Vertex) (number : ℕ) (args : List ℕ) → Decides (are_lower vs number args) (AllBelow (length vs) args × AreLower vs number args)
 lower_decided vs number [] = (λ h. (tt, λ a w i e. absurd i), λ h. refl)
 lower_decided vs number (b ∷ args) =
-    let more = decides_and _ _ (decides_and _ _ (Decides-ltb b (length vs)) (Decides-not _ (Decides-ltb number (number_at (slice_get vs b))))) (lower_decided vs number args) in
-    (λ h.
-    let t = more.0 h in
-    let l : number_at (slice_get vs b) ≤ number = not_less (number_at (slice_get vs b)) t.0.1 in
-    ((t.0.0, t.1.0), λ a w i e. elim i [
-      | inl q ↦ (let n : number_at (slice_get vs b) ≡ w.at.number = ap (λ k. number_at (slice_get vs k)) q ∙ ap number_at e in omega (arith, l, n))
-      | inr r ↦ t.1.1 a w r e
-    ]),
-    λ h.
-    let w = get_there vs b h.0.0 in
-    let n : number_at (slice_get vs b) ≡ w.0.at.number = ap number_at w.1 in
-    let l : w.0.at.number ≤ number = h.1 b w.0 (inl refl) w.1 in
-    more.1 ((h.0.0, λ k. omega (arith, l, n, k)), (h.0.1, λ a u i e. h.1 a u (inr i) e)))
+    let more = decides_and _ _ (decides_and _ _ (Decides-ltb b (length vs)) (Decides-not _ (Decides-ltb number (number_at (slice_get vs b))))) (lower_decided vs number args) in (
+      λ h.
+          let t = more.0 h in
+          let l : number_at (slice_get vs b) ≤ number = not_less (number_at (slice_get vs b)) t.0.1 in (
+            (t.0.0, t.1.0),
+            λ a w i e. elim i [
+              | inl q ↦ (let n : number_at (slice_get vs b) ≡ w.at.number = ap (λ k. number_at (slice_get vs k)) q ∙ ap number_at e in omega (arith, l, n))
+              | inr r ↦ t.1.1 a w r e
+            ],
+          ),
+      λ h.
+          let w = get_there vs b h.0.0 in
+          let n : number_at (slice_get vs b) ≡ w.0.at.number = ap number_at w.1 in
+          let l : w.0.at.number ≤ number = h.1 b w.0 (inl refl) w.1 in
+          more.1 ((h.0.0, λ k. omega (arith, l, n, k)), (h.0.1, λ a u i e. h.1 a u (inr i) e)),
+    )
   where
     not_less : (n : ℕ) → ((number < n) → ⊥) → n ≤ number
     not_less n h = grind (arith, h)
 
 pub may_add_decided : (vs : List Vertex) (v : Vertex) → Decides (may_add vs v) (MayAdd vs v)
 may_add_decided vs v =
-    let both = decides_and _ _ (lower_decided vs v.at.number v.args) (all_decided v vs) in
-    (λ h.
-    let t = both.0 h in
-    record { below = t.0.0; lower = t.0.1; calls = λ j w e. (t.1 j w e).0; shared = λ j w e. (t.1 j w e).1 },
-    λ m. both.1 ((m.below, m.lower), λ j w e. (m.calls j w e, m.shared j w e)))
+    let both = decides_and _ _ (lower_decided vs v.at.number v.args) (all_decided v vs) in (
+      λ h.
+          let t = both.0 h in
+          record { below = t.0.0; lower = t.0.1; calls = λ j w e. (t.1 j w e).0; shared = λ j w e. (t.1 j w e).1 },
+      λ m. both.1 ((m.below, m.lower), λ j w e. (m.calls j w e, m.shared j w e)),
+    )
 
 -- ---- a list whose vertices may follow each other
 

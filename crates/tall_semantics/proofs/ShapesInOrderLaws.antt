@@ -30,7 +30,7 @@ made_one : (columns : Columns) (at : At) (m : Made) (xs : List Tall) → (or_bla
 unfolding tall
 made_one columns at (stored s v c) [] = refl
 made_one columns at (stored s v c) (x ∷ xs) = refl
-made_one columns at (operation op) xs = shaped_tall (outcome at op xs) (shape op (shapes xs)) 
+made_one columns at (operation op) xs = shaped_tall (outcome at op xs) (shape op (shapes xs))
 
 shape_there : (ts : List Tall) (n : ℕ) → (tall_in ts n).shape ≡ shape_in (shapes ts) n
 shape_there [] n = refl

@@ -17,8 +17,7 @@ pub use laws::{
     numbers_are_equal_for_equal_trees, one_pass_a_level_and_datastore,
     operator_faults_keep_their_order, premises_can_be_met, tests_mean_equality,
     the_last_candidate_is_the_fault, the_work_of_a_level_is_ready,
-    values_have_the_rows_of_their_space, values_have_their_class,
-    values_in_order_are_the_solution,
+    values_have_the_rows_of_their_space, values_have_their_class, values_in_order_are_the_solution,
 };
 pub use plans::{
     a_level_keeps_the_carries, a_plan_has_a_pass_for_each_level_and_datastore, what_is_needed,
