@@ -20,10 +20,28 @@ TICKS = os.sysconf("SC_CLK_TCK")
 CRATE = re.compile(r"--crate-name[ =](\S+)")
 
 
-def processes():
-    """Each checker that runs: its number with its start, its crate, its part and its processor seconds."""
+def descendants(first):
+    """The numbers of all processes that the first one started, and of those that they started."""
+    children = collections.defaultdict(list)
     for folder in pathlib.Path("/proc").iterdir():
-        if not folder.name.isdigit():
+        if folder.name.isdigit():
+            try:
+                children[(folder / "stat").read_text().rsplit(")", 1)[1].split()[1]].append(folder.name)
+            except OSError:
+                continue
+    found, todo = set(), [str(first)]
+    while todo:
+        for child in children[todo.pop()]:
+            found.add(child)
+            todo.append(child)
+    return found
+
+
+def processes(first):
+    """Each checker that runs below a process: its number with its start, its crate, its part and its processor seconds."""
+    below = descendants(first)
+    for folder in pathlib.Path("/proc").iterdir():
+        if folder.name not in below:
             continue
         try:
             words = (folder / "cmdline").read_bytes().replace(b"\0", b" ").decode(errors="replace")
@@ -39,7 +57,7 @@ def processes():
 
 
 def part_of(words, place):
-    if "must-fail" in place or "/edit" in place:
+    if "/rt-edit-" in place:
         return "edits"
     return "tests" if " --test" in words else "proofs"
 
@@ -49,7 +67,7 @@ def watch(command, log):
     readings = {}
     child = subprocess.Popen(command)
     while child.poll() is None:
-        for name, crate, part, spent in processes():
+        for name, crate, part, spent in processes(child.pid):
             readings[name] = (crate, part, spent)
             if log is not None:
                 log.write(f"{name} {crate} {part} {spent:.2f}\n")
