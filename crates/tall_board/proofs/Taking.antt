@@ -45,13 +45,3 @@ module _ {P : Type 0} (right : ℕ → P → Type 0) (places place : ℕ) (first
         ];
     there = λ k h below. get_or-set_other filled place k false false (λ here. omega arith) ∙ t.there k (omega arith) below;
   }
-
-pub none_taken : {P : Type 0} (right : ℕ → P → Type 0) (places : ℕ) (slots : List (Option P)) (filled : List Bool) (pieces : List P) → pieces ≡ []
-    → ((k : ℕ) → k < places → slice_index_or filled k false ≡ true) → Taking right places 0 slots slots filled pieces
-none_taken right places slots filled pieces empty full = record {
-  same = refl;
-  count = ap length empty;
-  in_place = subst (λ (l : List _). InPlace right 0 l) (sym empty) tt;
-  taken = λ k h. absurd (omega arith);
-  there = λ k h below. full k below;
-}

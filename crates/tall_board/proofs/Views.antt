@@ -67,12 +67,6 @@ module _ {P : Type 0} where
   holders_snoc laid [] v none_laid h = ap (λ (t : Option ℕ). held_with t (laid zero) ∷ []) h
   holders_snoc laid (u ∷ vs) v none_laid h = ap (λ (l : List (Option (Held P))). held_with u.ticket (laid zero) ∷ l) (holders_snoc (λ j. laid (suc j)) vs v (λ j. none_laid (suc j)) h)
 
-  pub nothing_by : (vs : List View) (f g : ℕ → Option P) → ((i : ℕ) → f i ≡ g i) → holders f vs ≡ holders g vs
-  nothing_by [] f g h = refl
-  nothing_by (u ∷ vs) f g h =
-      ap (λ (p : Option P). held_with u.ticket p ∷ holders (λ j. f (suc j)) vs) (h zero)
-      ∙ ap (λ (l : List (Option (Held P))). held_with u.ticket (g zero) ∷ l) (nothing_by vs (λ j. f (suc j)) (λ j. g (suc j)) (λ j. h (suc j)))
-
   -- where one seat laid a piece, the machine sees it with its place
   pub holders_laid : (vs : List View) (i place : ℕ) (piece : P) (v : View) → get_elem? vs i ≡ some v → v.ticket ≡ Some place
       → holders (laid_by i piece) vs ≡ set (holders nothing_laid vs) i (Some (holding place (Some piece)))

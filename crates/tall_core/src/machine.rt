@@ -154,9 +154,7 @@ impl<P: Drop> Machine<P> {
         } = self;
         for piece in published {
             let Some(piece) = piece else { unreachable!() };
-            let Ok(()) = pieces.push(piece) else {
-                unreachable!()
-            };
+            pieces.push_reserved(piece);
         }
         pieces
     }

@@ -5,6 +5,7 @@
 #![tactic(auto)]
 
 pub mod gate;
+pub mod hold_gate;
 pub mod host;
 pub mod mem_shelf;
 pub mod mem_sink;
@@ -12,6 +13,7 @@ pub mod shelf;
 pub mod sink;
 
 pub use gate::{Gate, OpenGate};
+pub use hold_gate::HoldGate;
 pub use host::{HostShelf, HostSink};
 pub use mem_shelf::{MemShelf, has_distinct_names};
 pub use mem_sink::MemSink;

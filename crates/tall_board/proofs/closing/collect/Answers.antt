@@ -19,6 +19,6 @@ loop-place-preserved g c =
       search rules,
       search rules,
       search rules,
-      subst (λ (f : List Bool). Taking right c.args.places (c.loop-place.place + 1) (slots_items c.args.closed.slots) (slots_items c.take.new.self.slots) f c.push_reserved.new.self.items) (sym c.in-Some.ensures.others.1)
-          (subst (λ (l : List g.row.T-Piece.Denot). Taking right c.args.places (c.loop-place.place + 1) (slots_items c.args.closed.slots) (slots_items c.take.new.self.slots) (set (slots_filled closed.slots) c.loop-place.place false) l) (sym c.push_reserved.ensures.items) t),
+      subst (λ (f : List Bool). Taking right c.args.places (c.loop-place.place + 1) (slots_items c.args.closed.slots) (slots_items c.take.new.self.slots) f c.push_reserved.new.self.items) (sym {A = List Bool} c.in-Some.ensures.others.1)
+          (subst (λ (l : List g.row.T-Piece.Denot). Taking right c.args.places (c.loop-place.place + 1) (slots_items c.args.closed.slots) (slots_items c.take.new.self.slots) (set (slots_filled closed.slots) c.loop-place.place false) l) (sym {A = List g.row.T-Piece.Denot} c.push_reserved.ensures.items) t),
     )
