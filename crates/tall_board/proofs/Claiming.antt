@@ -1,18 +1,18 @@
 -- A claim keeps the rule, below the number of places and past it.
-use Rattle.std.proofs.Common.{◌≡◌, ◌≢◌, ℕ, zero, suc, ◌+◌, ◌%◌, ◌^◌, ◌<◌, ◌≤◌, min, ◌⊎◌, List, [], ◌∷◌, map, length, set, sym, refl, ap, ◌∙◌, subst, inl, inr, ⊎_elim, lt_of_not-le, arith}
+use Rattle.std.proofs.Common.{◌≡◌, ℕ, ◌+◌, ◌%◌, ◌^◌, ◌<◌, ◌≤◌, min, [], map, length, set, sym, refl, ap, ◌∙◌, subst, inl, inr, ⊎_elim, lt_of_not-le, arith}
 use Rattle.std.proofs.lemmas.List.{length-set}
-use Rattle.std.specs.Prelude.{Bool, true, false, Option, Some, None, slice_get, slice_set, slice_index}
+use Rattle.std.specs.Prelude.{false, Option, Some, None, slice_get, slice_set, slice_index}
 use mathlib.Core.Option.{none, some, some-ne-none}
 use lib.ListN.{get_elem?}
 use native.Mathlib.Decide.{dec_le, ℕ_discrete}
-use Rattle.atomic_table.specs.Table.{State, Me, Act, keeps, takes, Valid, Allows, step, stepped}
+use Rattle.atomic_table.specs.Table.{State, keeps, takes, Allows, step, stepped}
 use Rattle.atomic_table.proofs.Lists.{at_set, set_here, set_else}
 use Rattle.tall_core.specs.declared.event.Event.TheVariants.{Claim, ClaimPast}
-use Rattle.tall_core.specs.Machine.{state, holding, claimed, after, Reached, does}
+use Rattle.tall_core.specs.Machine.{holding, claimed, after, Reached, does}
 use Rattle.tall_board.specs.declared.view.View.{View}
-use Rattle.tall_board.specs.Rule.{drawn, published, with_ticket, told_none, total, held, left_room, Holds, Fits, held_with, holders, at_home, nothing_laid, shown, Kept, Claimed}
-use Rattle.tall_board.proofs.Views.{total-set, there, one_value, holder_at, holders_set, holders_same, homes_same, home_at}
-use Rattle.tall_board.proofs.Facts.{word_added, word_kept, none_some, value_is, not_both, left_is, left_le, same_state, claims, claims_past, once, held_by, below, not_idle, fits_later}
+use Rattle.tall_board.specs.Rule.{drawn, published, with_ticket, told_none, held, left_room, Holds, Fits, held_with, holders, at_home, nothing_laid, shown, Kept, Claimed}
+use Rattle.tall_board.proofs.Views.{total-set, there, holder_at, holders_set, holders_same, homes_same, home_at}
+use Rattle.tall_board.proofs.Facts.{word_added, word_kept, none_some, value_is, not_both, left_is, left_le, same_state, claims, claims_past, once, below, not_idle, fits_later}
 
 nothing_there : {A : Type 0} (a : A) → ◌≡◌ {A = mathlib.Core.Option.Option A} none (some a) → ⊥
 nothing_there a e = some-ne-none a (sym e)

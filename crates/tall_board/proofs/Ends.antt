@@ -1,12 +1,11 @@
 -- The rule at the start, and what it gives at the end.
-use Rattle.std.proofs.Common.{◌≡◌, ◌≢◌, ℕ, zero, suc, ◌+◌, ◌^◌, ◌<◌, ◌≤◌, min, ◌⊎◌, List, [], ◌∷◌, ◌++◌, map, length, set, sym, refl, ap, ◌∙◌, subst, inl, inr, ⊎_elim, arith}
-use Rattle.std.specs.Prelude.{Bool, true, false, Option, Some, None, replicate, slice_get}
-use mathlib.Core.Option.{none, some, some-injective, some-ne-none}
+use Rattle.std.proofs.Common.{◌≡◌, ℕ, zero, suc, ◌+◌, ◌^◌, ◌<◌, ◌≤◌, min, List, [], ◌∷◌, ◌++◌, map, length, sym, refl, ap, ◌∙◌, subst, inr, ⊎_elim, arith}
+use Rattle.std.specs.Prelude.{true, Option, Some, None, replicate}
+use mathlib.Core.Option.{some, some-injective, some-ne-none}
 use lib.ListN.{get_elem?}
 use native.Mathlib.Decide.{ℕ_discrete}
 use Rattle.atomic_table.specs.Table.{State, opening, Final, Seen}
-use Rattle.tall_core.specs.declared.event.Held.{Held}
-use Rattle.tall_core.specs.Machine.{state, start, Reached, begins}
+use Rattle.tall_core.specs.Machine.{begins}
 use Rattle.tall_board.specs.declared.view.View.{View}
 use Rattle.tall_board.specs.Rule.{first_view, Holds, Fits, drawn, at_home, nothing_laid, shown, Kept}
 use Rattle.tall_board.specs.Pieces.{InPlace}

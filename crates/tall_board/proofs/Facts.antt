@@ -1,10 +1,10 @@
 -- What the rule says of a table, and steps of the machine at a known holder.
-use Rattle.std.proofs.Common.{◌≡◌, ◌≢◌, ℕ, zero, suc, ◌+◌, ◌%◌, ◌^◌, ◌<◌, ◌≤◌, min, ◌⊎◌, List, [], ◌∷◌, map, length, set, sym, refl, ap, ◌∙◌, subst, inl, inr, ⊎_elim, arith}
+use Rattle.std.proofs.Common.{◌≡◌, ◌≢◌, ℕ, ◌+◌, ◌%◌, ◌^◌, ◌<◌, ◌≤◌, min, List, [], ◌∷◌, length, sym, refl, ap, ◌∙◌, arith}
 use Rattle.std.proofs.lemmas.Bool.Decides.{nat_tests}
-use Rattle.std.proofs.lemmas.List.{length-set, get_or-set_same, get_or-set_other}
+use Rattle.std.proofs.lemmas.List.{get_or-set_same, get_or-set_other}
 use Rattle.std.proofs.Math.Nat.{mod-eq_of_lt}
-use Rattle.std.specs.Prelude.{Bool, true, false, Option, Some, None, ◌&&◌, cond, if◌then◌else◌, nat_eq, nat_lt, slice_get, slice_set, slice_index, option_map}
-use mathlib.Core.Option.{none, some}
+use Rattle.std.specs.Prelude.{Bool, true, false, Option, Some, None, ◌&&◌, if◌then◌else◌, nat_eq, nat_lt, slice_get, slice_set, slice_index, option_map}
+use mathlib.Core.Option.{some}
 use lib.ListN.{get_elem?}
 use Rattle.atomic_table.specs.Table.{State}
 use Rattle.tall_core.specs.declared.event.Held.{Held}
@@ -13,7 +13,7 @@ use Rattle.tall_core.specs.Machine.{state, holding, is_idle, vacant_place, laid_
 use Rattle.tall_core.specs.Machine as machine
 use Rattle.tall_core.proofs.Reaches.{reached_once}
 use Rattle.tall_board.specs.declared.view.View.{View}
-use Rattle.tall_board.specs.Rule.{drawn, published, total, held, left_room, Holds, Fits, held_with, holders, at_home, nothing_laid, shown, Kept}
+use Rattle.tall_board.specs.Rule.{drawn, total, left_room, Holds, Fits, held_with, nothing_laid, shown, Kept}
 use Rattle.tall_board.proofs.Views.{holder_at, view_at, one_value}
 
 is_less : (a b : ℕ) → a < b → nat_lt a b ≡ true

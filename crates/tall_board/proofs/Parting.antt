@@ -1,18 +1,17 @@
 -- A seat is split in two, and two seats are joined.
-use Rattle.std.proofs.Common.{◌≡◌, ◌≢◌, ℕ, zero, suc, ◌+◌, ◌-◌, ◌/◌, ◌^◌, ◌<◌, ◌≤◌, min, max, ◌⊎◌, List, [], ◌∷◌, ◌++◌, map, length, set, sym, refl, ap, ◌∙◌, subst, inl, inr, ⊎_elim, length-append, arith}
+use Rattle.std.proofs.Common.{◌≡◌, ◌≢◌, ℕ, suc, ◌+◌, ◌-◌, ◌/◌, ◌≤◌, min, ◌⊎◌, List, [], ◌∷◌, ◌++◌, map, length, set, sym, refl, ap, ◌∙◌, subst, inl, inr, ⊎_elim, length-append, arith}
 use Rattle.std.proofs.lemmas.List.{length-set}
-use Rattle.std.specs.Prelude.{Bool, true, false, ◌||◌, Option, Some, None, if◌then◌else◌}
-use mathlib.Core.Option.{none, some}
+use Rattle.std.specs.Prelude.{Bool, true, false, ◌||◌, Option, None, if◌then◌else◌}
+use mathlib.Core.Option.{some}
 use lib.ListN.{get_elem?}
-use native.Mathlib.Decide.{ℕ_discrete}
 use Rattle.atomic_table.specs.Table.{State, Splits, Joins}
-use Rattle.atomic_table.proofs.Lists.{at_set, at_snoc, at_longer, set_here, set_else}
+use Rattle.atomic_table.proofs.Lists.{at_set, at_snoc, at_longer, set_else}
 use Rattle.tall_core.specs.declared.event.Held.{Held}
 use Rattle.tall_core.specs.Machine.{state, Reached}
 use Rattle.tall_core.proofs.Reaches.{wider, reached_wider}
 use Rattle.tall_board.specs.declared.view.View.{View}
-use Rattle.tall_board.specs.Rule.{drawn, rest_of, half_of, joined, spent, total, held, left_room, Holds, Fits, holders, at_home, nothing_laid, shown, Kept}
-use Rattle.tall_board.proofs.Views.{total-set, total-snoc, there, one_value, holders_same, holders_snoc}
+use Rattle.tall_board.specs.Rule.{drawn, rest_of, half_of, joined, spent, held, left_room, Holds, Fits, holders, at_home, nothing_laid, shown, Kept}
+use Rattle.tall_board.proofs.Views.{total-set, total-snoc, holders_same, holders_snoc}
 use Rattle.tall_board.proofs.Facts.{none_some, not_idle}
 
 halves : (b : Bool) (r : ℕ) → (if b then 0 else (r - r / 2)) + (if b then 0 else (r / 2)) ≡ (if b then 0 else r)

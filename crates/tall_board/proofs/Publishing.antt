@@ -1,11 +1,11 @@
 -- A publication keeps the rule.
-use Rattle.std.proofs.Common.{◌≡◌, ◌≢◌, ℕ, zero, suc, ◌+◌, ◌%◌, ◌^◌, ◌<◌, ◌≤◌, min, ◌⊎◌, List, [], ◌∷◌, map, length, set, sym, refl, ap, ◌∙◌, subst, inl, inr, ⊎_elim, arith}
+use Rattle.std.proofs.Common.{◌≡◌, ◌≢◌, ℕ, zero, suc, ◌+◌, ◌%◌, ◌^◌, ◌<◌, min, List, [], ◌∷◌, map, length, set, sym, refl, ap, ◌∙◌, subst, inl, inr, ⊎_elim, arith}
 use Rattle.std.proofs.lemmas.List.{length-set}
-use Rattle.std.specs.Prelude.{Bool, true, false, Option, Some, None, slice_get, slice_set, slice_index}
+use Rattle.std.specs.Prelude.{Option, Some, None, slice_get, slice_set, slice_index}
 use mathlib.Core.Option.{none, some, some-injective}
 use lib.ListN.{get_elem?}
 use native.Mathlib.Decide.{ℕ_discrete}
-use Rattle.atomic_table.specs.Table.{State, Me, Act, gives, Allows, step, stepped}
+use Rattle.atomic_table.specs.Table.{State, gives, Allows, step, stepped}
 use Rattle.atomic_table.proofs.Lists.{at_set, set_here, set_else}
 use Rattle.tall_core.specs.declared.event.Held.{Held}
 use Rattle.tall_core.specs.declared.event.Event.TheVariants.{Lay, Publish}
@@ -13,9 +13,9 @@ use Rattle.tall_core.specs.Machine.{state, holding, laid, after, Reached, does}
 use Rattle.tall_core.specs.Machine as machine
 use Rattle.tall_core.proofs.Lists.{get_set_here}
 use Rattle.tall_board.specs.declared.view.View.{View}
-use Rattle.tall_board.specs.Rule.{drawn, published, idle, total, held, left_room, Holds, Fits, held_with, holders, at_home, nothing_laid, laid_by, shown, Kept, Published}
-use Rattle.tall_board.proofs.Views.{total-set, there, one_value, holder_at, holders_set, holders_laid, homes_set}
-use Rattle.tall_board.proofs.Facts.{word_added, word_kept, none_some, value_is, same_state, lays, publishes, held_by, below, apart, fits_later}
+use Rattle.tall_board.specs.Rule.{drawn, published, idle, held, left_room, Holds, Fits, held_with, holders, at_home, nothing_laid, laid_by, shown, Kept, Published}
+use Rattle.tall_board.proofs.Views.{total-set, one_value, holder_at, holders_set, holders_laid, homes_set}
+use Rattle.tall_board.proofs.Facts.{word_added, word_kept, none_some, value_is, same_state, lays, publishes, below, apart, fits_later}
 use Rattle.std.proofs.lemmas.Option.{slice_get_within}
 
 set_again : {A : Type 0} (l : List A) (i : ℕ) (a b : A) → set (set l i a) i b ≡ set l i b

@@ -1,14 +1,12 @@
 -- Lists of views: sums over them, and the holders that the machine sees.
-use Rattle.std.proofs.Common.{◌≡◌, ◌≢◌, ℕ, zero, suc, ◌+◌, ◌<◌, ◌≤◌, min, ◌⊎◌, List, [], ◌∷◌, ◌++◌, map, length, set, sym, refl, ap, ◌∙◌, subst, inl, inr, ⊎_elim, arith}
-use Rattle.std.proofs.lemmas.List.{length-set}
-use Rattle.std.specs.Prelude.{Option, Some, None, slice_get, true, false}
+use Rattle.std.proofs.Common.{◌≡◌, ◌≢◌, ℕ, zero, suc, ◌+◌, ◌<◌, ◌≤◌, List, [], ◌∷◌, ◌++◌, map, length, set, sym, refl, ap, ◌∙◌, arith}
+use Rattle.std.specs.Prelude.{Option, Some, None, slice_get}
 use mathlib.Core.Option.{none, some, some-injective, some-ne-none}
 use lib.ListN.{get_elem?}
-use native.Mathlib.Decide.{dec_le, ℕ_discrete}
 use Rattle.tall_core.specs.declared.event.Held.{Held}
 use Rattle.tall_core.specs.Machine.{holding}
 use Rattle.tall_board.specs.declared.view.View.{View}
-use Rattle.tall_board.specs.Rule.{total, held, left_room, Holds, Fits, held_with, holders, at_home, nothing_laid, laid_by}
+use Rattle.tall_board.specs.Rule.{total, held_with, holders, at_home, nothing_laid, laid_by}
 
 pub total-set : (f : View → ℕ) (vs : List View) (i : ℕ) (v w : View) → get_elem? vs i ≡ some v → total f (set vs i w) + f v ≡ total f vs + f w
 total-set f [] i v w e = absurd (some-ne-none v (sym e))

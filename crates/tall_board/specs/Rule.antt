@@ -1,6 +1,6 @@
 -- The rule of the table under the board, and what its steps tell.
 -- Word 0 counts the places that were drawn, word 1 those that were published. A seat that has drawn a place has its slot.
-use Rattle.std.specs.Prelude.{◌≡◌, ℕ, zero, suc, ◌+◌, ◌-◌, ◌/◌, ◌^◌, ◌<◌, ◌≤◌, min, max, Bool, true, false, ◌||◌, ◌⊎◌, List, [], ◌∷◌, map, length, Option, Some, None, slice_index, if◌then◌else◌}
+use Rattle.std.specs.Prelude.{◌≡◌, ℕ, zero, suc, ◌+◌, ◌-◌, ◌/◌, ◌^◌, ◌<◌, ◌≤◌, min, max, true, false, ◌||◌, ◌⊎◌, List, [], ◌∷◌, map, length, Option, Some, None, slice_index, if◌then◌else◌}
 use mathlib.Core.Option.{none, some}
 use lib.ListN.{get_elem?}
 use Rattle.atomic_table.specs.Table.{State, Step, Me, rest}

@@ -1,4 +1,4 @@
-use Rattle.std.proofs.Common.{rules, ◌≡◌, ◌+◌, ℕ, List, ◌++◌, [], ◌∷◌, Bool, false, set, sym, subst, arith}
+use Rattle.std.proofs.Common.{rules, ◌+◌, ℕ, List, Bool, false, set, sym, subst, arith}
 use Rattle.std.specs.Slots.{slots_items, slots_filled}
 use Rattle.tall_board.proofs.Taking.{Taking, is_there, one_taken}
 use Rattle.tall_board.proofs.closing.collect.Goals as goal

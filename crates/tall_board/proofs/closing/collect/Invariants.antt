@@ -1,6 +1,5 @@
-use Rattle.std.proofs.Common.{◌≡◌, ℕ, ◌<◌, ◌≤◌, true, false, length, slice_index_or, vec_len, vec_capacity}
+use Rattle.std.proofs.Common.{◌≡◌, ◌≤◌, vec_len, vec_capacity}
 use Rattle.std.specs.Slots.{slots_items, slots_len, slots_filled}
-use Rattle.tall_board.specs.Pieces.{InPlace}
 use Rattle.tall_board.proofs.Taking.{Taking}
 use Rattle.tall_board.proofs.closing.collect.Given as goal
 

@@ -1,4 +1,4 @@
-use Rattle.std.proofs.Common.{rules, ◌≡◌, ◌+◌, ◌^◌, ◌<◌, ◌≤◌, ℕ, List, [], ◌∷◌, Some, false, ap, sym, ◌∙◌, subst, arith}
+use Rattle.std.proofs.Common.{◌≡◌, false, ap, sym, ◌∙◌, arith}
 use Rattle.tall_board.specs.declared.rule.Job.{Job}
 use Rattle.tall_board.proofs.Steps.{allows_claim}
 use Rattle.tall_board.proofs.board.Board.claim.Goals as goal

@@ -1,4 +1,4 @@
-use Rattle.std.proofs.Common.{rules, ◌≡◌, ◌+◌, ◌^◌, ◌<◌, ◌≤◌, ℕ, List, [], ◌∷◌, Some, false, ap, sym, ◌∙◌, subst, arith}
+use Rattle.std.proofs.Common.{subst}
 use Rattle.tall_board.specs.declared.rule.Job.{Job}
 use Rattle.std.specs.Slots.{slots_items}
 use Rattle.atomic_table.specs.Table.{Final, Seen}

@@ -1,4 +1,4 @@
-use Rattle.std.proofs.Common.{rules, ◌≡◌, ◌+◌, ◌^◌, ◌<◌, ◌≤◌, ℕ, List, [], ◌∷◌, Some, false, ap, sym, ◌∙◌, subst, arith}
+use Rattle.std.proofs.Common.{◌≡◌, ℕ, List, [], ◌∷◌, Some, ap, sym, ◌∙◌, subst, arith}
 use Rattle.tall_board.specs.declared.rule.Job.{Job}
 use Rattle.atomic_table.specs.Table.{rest}
 use Rattle.std.proofs.Common.{Option}

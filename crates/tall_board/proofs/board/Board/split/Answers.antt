@@ -1,5 +1,4 @@
-use Rattle.std.proofs.Common.{rules, ◌≡◌, ◌+◌, ◌^◌, ◌<◌, ◌≤◌, ℕ, List, [], ◌∷◌, Some, false, ap, sym, ◌∙◌, subst, arith}
-use Rattle.tall_board.specs.declared.rule.Job.{Job}
+use Rattle.std.proofs.Common.{arith}
 use Rattle.tall_board.proofs.Parting.{splits}
 use Rattle.tall_board.proofs.board.Board.split.Goals as goal
 
