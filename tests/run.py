@@ -4,6 +4,7 @@
 Each folder tests/scripts/NAME is one case. It has some of these files, and the data files that its script reads:
 
     script.m   the script
+    length     a number: blanks are put behind the script until it has this many bytes
     words      the words after the program's name, one a line; script.m alone where there is no such file
     stdout     the bytes that the program has to write; none where there is no such file
     stderr     the same, for the standard error
@@ -25,7 +26,7 @@ import sys
 import tempfile
 
 SUITE = pathlib.Path(__file__).resolve().parent / "scripts"
-NOT_DATA = {"words", "stdout", "stderr", "status", "vary"}
+NOT_DATA = {"length", "words", "stdout", "stderr", "status", "vary"}
 READ_SIZES = ["1", "2", "3", "7", "20000"]
 WORKERS = ["1", "2", "4", "8"]
 NOT_BUILT = b"tallrun: not built\n"
@@ -41,6 +42,7 @@ class Case:
         self.stdout = self.content("stdout")
         self.stderr = self.content("stderr")
         self.status = int(self.content("status") or b"0")
+        self.length = int(self.content("length") or b"0")
         self.varies = (folder / "vary").exists()
 
     def content(self, name):
@@ -69,9 +71,10 @@ def run_once(program, case, size, words):
         for source in case.folder.iterdir():
             if source.name not in NOT_DATA:
                 shutil.copyfile(source, pathlib.Path(place) / source.name)
-        if size is not None:
-            script = pathlib.Path(place) / "script.m"
-            script.write_bytes(script.read_bytes().replace(b"READSIZE", size.encode()))
+        script = pathlib.Path(place) / "script.m"
+        if script.exists():
+            text = script.read_bytes() if size is None else script.read_bytes().replace(b"READSIZE", size.encode())
+            script.write_bytes(text.ljust(case.length))
         try:
             done = subprocess.run([program, *words], cwd=place, capture_output=True, stdin=subprocess.DEVNULL,
                                   timeout=SECONDS)
