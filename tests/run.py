@@ -1,18 +1,20 @@
 #!/usr/bin/env python3
 """Runs a program over the suite of scripts: tests/run.py PROGRAM [--only WORD] [--jobs N]
 
-Each folder tests/scripts/NAME is one case. It has some of these files, and the data files that its script reads:
+Each folder tests/scripts/NAME and examples/NAME is one case. It has some of these files, and the data files that its
+script reads:
 
-    script.m   the script
+    script.m   the script; in examples it has the folder's name
     length     a number: blanks are put behind the script until it has this many bytes
-    words      the words after the program's name, one a line; script.m alone where there is no such file
+    words      the words after the program's name, one a line; the script's name alone where there is no such file
     stdout     the bytes that the program has to write; none where there is no such file
     stderr     the same, for the standard error
     status     the status with which it has to end; 0 where there is no such file
     vary       empty: the case is run once with each number in place of READSIZE in the script, and with each number of
                workers; the answer may not change
+    make.py    a program that writes data files; it is run first
 
-A case runs in a copy of its folder, without the files of this list but script.m. It passes where the bytes of both
+A case runs in a copy of its folder, without the files of this list but the script. It passes where the bytes of both
 outputs and the status are the expected ones. It is skipped where something else is expected and the program answers that
 it is not built yet. Each difference is printed; the last line counts the cases, and the status is 1 where one failed.
 """
@@ -25,7 +27,8 @@ import subprocess
 import sys
 import tempfile
 
-SUITE = pathlib.Path(__file__).resolve().parent / "scripts"
+ROOT = pathlib.Path(__file__).resolve().parents[1]
+SUITE = [ROOT / "tests" / "scripts", ROOT / "examples"]
 NOT_DATA = {"length", "words", "stdout", "stderr", "status", "vary"}
 READ_SIZES = ["1", "2", "3", "7", "20000"]
 WORKERS = ["1", "2", "4", "8"]
@@ -38,7 +41,8 @@ class Case:
 
     def __init__(self, folder):
         self.folder = folder
-        self.words = self.lines("words", ["script.m"])
+        self.script = next((path.name for path in folder.glob("*.m")), "script.m")
+        self.words = self.lines("words", [self.script])
         self.stdout = self.content("stdout")
         self.stderr = self.content("stderr")
         self.status = int(self.content("status") or b"0")
@@ -60,7 +64,7 @@ class Case:
         """Pairs of a number for READSIZE, or None, and the words."""
         if not self.varies:
             return [(None, self.words)]
-        sizes = READ_SIZES if b"READSIZE" in self.content("script.m") else [None]
+        sizes = READ_SIZES if b"READSIZE" in self.content(self.script) else [None]
         workers = [[]] + [["--workers", n] for n in WORKERS]
         return [(size, some + self.words) for size in sizes for some in workers]
 
@@ -69,9 +73,11 @@ def run_once(program, case, size, words):
     """Runs one variant in a copy of the folder; answers the differences, and whether the program isn't built so far."""
     with tempfile.TemporaryDirectory() as place:
         for source in case.folder.iterdir():
-            if source.name not in NOT_DATA:
+            if source.is_file() and source.name not in NOT_DATA:
                 shutil.copyfile(source, pathlib.Path(place) / source.name)
-        script = pathlib.Path(place) / "script.m"
+        script = pathlib.Path(place) / case.script
+        if (case.folder / "make.py").exists():
+            subprocess.run([sys.executable, "make.py"], cwd=place, check=True, timeout=SECONDS)
         if script.exists():
             text = script.read_bytes() if size is None else script.read_bytes().replace(b"READSIZE", size.encode())
             script.write_bytes(text.ljust(case.length))
@@ -89,7 +95,7 @@ def run_once(program, case, size, words):
 
 
 def run_case(program, folder):
-    """Answers the case's name, its outcome and the lines that tell the differences."""
+    """Answers the case's outcome and the lines that tell the differences."""
     case = Case(folder)
     outcome = "passed"
     for size, words in case.variants():
@@ -100,8 +106,8 @@ def run_case(program, folder):
         if differences:
             with_size = "" if size is None else f" with {size} for READSIZE"
             head = f"{folder.name}: {' '.join(words)}{with_size}"
-            return folder.name, "failed", [head] + ["    " + line for line in differences]
-    return folder.name, outcome, []
+            return "failed", [head] + ["    " + line for line in differences]
+    return outcome, []
 
 
 def main():
@@ -114,10 +120,10 @@ def main():
     if program is None:
         parser.error(f"no program {options.program}")
     program = str(pathlib.Path(program).resolve())
-    folders = sorted(path for path in SUITE.iterdir() if path.is_dir() and options.only in path.name)
+    folders = sorted(path for root in SUITE for path in root.iterdir() if path.is_dir() and options.only in path.name)
     counts = {"passed": 0, "failed": 0, "skipped": 0}
     with concurrent.futures.ThreadPoolExecutor(max(1, options.jobs)) as pool:
-        for _, outcome, lines in pool.map(lambda folder: run_case(program, folder), folders):
+        for outcome, lines in pool.map(lambda folder: run_case(program, folder), folders):
             counts[outcome] += 1
             for line in lines:
                 print(line)
