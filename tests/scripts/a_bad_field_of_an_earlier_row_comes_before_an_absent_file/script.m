@@ -1,0 +1,3 @@
+ds = tabularTextDatastore({'a.csv', 'none.csv'}, 'TextscanFormats', {'%f'});
+T = tall(ds);
+t = gather(T)

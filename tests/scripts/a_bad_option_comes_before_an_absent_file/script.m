@@ -1,0 +1,1 @@
+ds = tabularTextDatastore('none.csv', 'ReadSize', 0);

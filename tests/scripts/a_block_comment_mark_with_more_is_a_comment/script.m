@@ -1,0 +1,2 @@
+%{ not a block
+x = 1

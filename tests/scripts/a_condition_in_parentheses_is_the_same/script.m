@@ -1,0 +1,10 @@
+ds = tabularTextDatastore('a.csv', 'TextscanFormats', {'%f'}, 'ReadSize', 1);
+r = mapreduce(ds, @m, @q)
+function m(data, ~, store)
+  add(store, 1, data.x(1));
+end
+function q(key, values, out)
+  while (hasnext(values))
+    x = 1;
+  end
+end

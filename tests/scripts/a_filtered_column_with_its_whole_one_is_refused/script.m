@@ -1,0 +1,3 @@
+ds = tabularTextDatastore('a.csv', 'TextscanFormats', {'%f', '%f'});
+T = tall(ds);
+q = T.x(T.x > 0) + T.y;

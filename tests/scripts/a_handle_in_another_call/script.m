@@ -1,0 +1,3 @@
+x = numel(@f)
+function f(a, b, c)
+end

@@ -1,0 +1,3 @@
+x = @g
+function f(a, b, c)
+end

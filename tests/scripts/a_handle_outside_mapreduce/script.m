@@ -1,0 +1,3 @@
+x = @f
+function f(a, b, c)
+end

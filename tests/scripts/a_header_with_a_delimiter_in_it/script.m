@@ -1,0 +1,4 @@
+ds = tabularTextDatastore('a.csv');
+ds.SelectedVariableNames = 'b,c';
+T = tall(ds);
+t = gather(T)

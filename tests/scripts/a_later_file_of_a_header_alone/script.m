@@ -1,0 +1,3 @@
+ds = tabularTextDatastore({'a.csv', 'b.csv', 'c.csv'});
+T = tall(ds);
+t = gather(T)

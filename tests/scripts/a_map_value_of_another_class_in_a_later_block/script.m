@@ -1,0 +1,14 @@
+ds = tabularTextDatastore('a.csv', 'TextscanFormats', {'%f'}, 'ReadSize', 1);
+r = mapreduce(ds, @m, @q)
+function m(data, ~, store)
+  if data.x(1) == 2
+    add(store, 1, 'a');
+  else
+    add(store, 1, 1);
+  end
+end
+function q(key, values, out)
+  while hasnext(values)
+    add(out, key, getnext(values));
+  end
+end

@@ -1,0 +1,10 @@
+ds = tabularTextDatastore('a.csv', 'TextscanFormats', {'%f'}, 'ReadSize', 'file');
+r = mapreduce(ds, @m, @q);
+n = height(r) + sum(r.Value)
+
+function m(data, ~, store)
+  add(store, 1, sum(data.x));
+end
+function q(key, values, out)
+  add(out, key, getnext(values));
+end

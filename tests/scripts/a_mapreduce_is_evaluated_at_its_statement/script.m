@@ -1,0 +1,10 @@
+ds = tabularTextDatastore('a.csv', 'TextscanFormats', {'%f'}, 'ReadSize', 1);
+r = mapreduce(ds, @m, @q);
+x = 1
+
+function m(data, ~, store)
+  add(store, 1, data.x(1) ./ 0);
+end
+function q(key, values, out)
+  add(out, key, getnext(values));
+end

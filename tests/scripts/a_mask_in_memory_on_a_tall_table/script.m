@@ -1,0 +1,4 @@
+ds = tabularTextDatastore('a.csv', 'TextscanFormats', {'%f'});
+T = tall(ds);
+m = gather(T.x > 0);
+y = T(m, :);

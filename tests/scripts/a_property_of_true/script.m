@@ -1,0 +1,1 @@
+true.ReadSize = 1;

@@ -1,0 +1,4 @@
+function f(a, b, c)
+if'a'
+end
+end

@@ -1,0 +1,11 @@
+ds = tabularTextDatastore('a.csv', 'TextscanFormats', {'%f'}, 'ReadSize', 1);
+r = mapreduce(ds, @m, @q)
+k = r.Key
+v = r.Value
+
+function m(data, ~, store)
+  x = 1;
+end
+function q(key, values, out)
+  add(out, key, getnext(values));
+end

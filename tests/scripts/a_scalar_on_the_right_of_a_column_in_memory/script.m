@@ -1,0 +1,9 @@
+ds = tabularTextDatastore('a.csv', 'TextscanFormats', {'%f', '%f'});
+T = tall(ds);
+[x, y] = gather(T.x, T.y);
+a = x - 10
+b = mod(y, 4)
+c = x < 3
+d = x / 2
+e = x * 2
+f = 2 * x

@@ -1,0 +1,3 @@
+function f(a, b, c)
+end
+function g(~, ~, ~), end

@@ -1,0 +1,9 @@
+ds = tabularTextDatastore('a.csv', 'TextscanFormats', {'%f'}, 'ReadSize', 1);
+r = mapreduce(ds, @m, @q)
+function m(data, ~, store)
+  add(store, data.x(1), 1);
+end
+function q(key, values, out)
+  add(out, 7, key);
+  add(out, 7, getnext(values));
+end

@@ -1,0 +1,3 @@
+ds = tabularTextDatastore('a.csv', 'TreatAsMissing', {});
+T = tall(ds);
+t = gather(T)

@@ -1,0 +1,2 @@
+ds = tabularTextDatastore('a.csv');
+x = ds(1);

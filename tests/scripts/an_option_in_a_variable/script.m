@@ -1,0 +1,4 @@
+o = 'ReadSize';
+n = 2;
+f = {'a.csv'};
+ds = tabularTextDatastore(f, o, n)

@@ -1,0 +1,1 @@
+x = bitand(true, true)

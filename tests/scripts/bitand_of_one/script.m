@@ -1,0 +1,1 @@
+x = bitand(int8(1))

@@ -1,0 +1,1 @@
+x = bitor(true, true)

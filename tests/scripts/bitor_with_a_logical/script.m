@@ -1,0 +1,1 @@
+x = bitor(int8(1), true)

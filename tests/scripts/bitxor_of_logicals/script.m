@@ -1,0 +1,1 @@
+x = bitxor(true, true)

@@ -1,0 +1,1 @@
+x = bitxor(int8(1), true)

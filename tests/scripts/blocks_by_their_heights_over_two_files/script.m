@@ -1,0 +1,10 @@
+ds = tabularTextDatastore({'a.csv', 'b.csv'}, 'TextscanFormats', {'%f'}, 'ReadSize', 2);
+r = mapreduce(ds, @m, @q)
+function m(data, ~, store)
+  add(store, 1, height(data));
+end
+function q(key, values, out)
+  while hasnext(values)
+    add(out, key, getnext(values));
+  end
+end

@@ -1,0 +1,6 @@
+ds = tabularTextDatastore('a.csv', 'TextscanFormats', {'%f', '%q'});
+T = tall(ds);
+t = gather(T);
+a = t.x > 1
+b = t.x
+c = t.y

@@ -1,0 +1,4 @@
+% first
+x = 1 % then = (
+%
+y = 'a % b' % c

@@ -1,0 +1,9 @@
+ds = tabularTextDatastore('a.csv', 'TextscanFormats', {'%f', '%f'});
+T = tall(ds);
+[x, y] = gather(T.x, T.y);
+a = x == y
+b = x ~= y
+c = x < y
+d = x <= y
+e = x > y
+f = x >= y

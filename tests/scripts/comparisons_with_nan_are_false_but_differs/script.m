@@ -1,0 +1,9 @@
+a = NaN == NaN
+b = NaN ~= NaN
+c = NaN < 1
+d = NaN <= NaN
+e = 1 > NaN
+f = NaN >= NaN
+g = 1 ~= NaN
+h = int8(1) == NaN
+k = true ~= NaN

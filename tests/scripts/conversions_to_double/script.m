@@ -1,0 +1,5 @@
+a = double(true)
+b = double(false)
+c = double(5)
+d = double(NaN)
+e = double(int8(-5))

@@ -1,0 +1,5 @@
+a = logical(5)
+b = logical(-1)
+c = logical(0)
+d = logical(true)
+e = logical(false)

@@ -1,0 +1,1 @@
+ds = tabularTextDatastore(1)

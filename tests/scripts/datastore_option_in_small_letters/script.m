@@ -1,0 +1,1 @@
+ds = tabularTextDatastore('a.csv', 'readsize', 2);

@@ -1,0 +1,3 @@
+ds = tabularTextDatastore('a.csv', 'Delimiter', 'z');
+T = tall(ds);
+t = gather(T)

@@ -1,0 +1,3 @@
+ds = tabularTextDatastore('a.csv', 'Delimiter', '	');
+T = tall(ds);
+t = gather(T)

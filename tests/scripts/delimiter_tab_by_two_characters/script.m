@@ -1,0 +1,3 @@
+ds = tabularTextDatastore('a.csv', 'Delimiter', '\t');
+T = tall(ds);
+t = gather(T)

@@ -1,0 +1,3 @@
+ds = tabularTextDatastore('a.csv', 'TreatAsMissing', {'NA', '-'});
+T = tall(ds);
+t = gather(T)

@@ -1,0 +1,2 @@
+a = 0 ./ 0
+b = false ./ false

@@ -1,0 +1,10 @@
+a = NaN + 1
+b = 1 - NaN
+c = NaN .* 0
+d = NaN ./ 0
+e = 0 ./ NaN
+f = mod(NaN, 0)
+g = mod(5, NaN)
+h = -NaN
+k = abs(NaN)
+m = +NaN

@@ -1,0 +1,5 @@
+ds = tabularTextDatastore('a.csv', 'TextscanFormats', {'%q', '%f'}, 'ReadSize', READSIZE);
+T = tall(ds);
+G = groupsummary(T, 'g', 'sum', 'v');
+H = groupsummary(T, 'g', 'sum', 'v');
+x = gather(G.sum_v - H.GroupCount)

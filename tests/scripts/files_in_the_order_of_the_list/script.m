@@ -1,0 +1,3 @@
+ds = tabularTextDatastore({'b.csv', 'a.csv'});
+T = tall(ds);
+t = gather(T)

@@ -1,0 +1,12 @@
+ds = tabularTextDatastore('a.csv', 'TextscanFormats', {'%f'}, 'ReadSize', 1);
+r = mapreduce(ds, @m, @q)
+function m(data, ~, store)
+  for k = -1:1
+    add(store, 1, k);
+  end
+end
+function q(key, values, out)
+  while hasnext(values)
+    add(out, key, getnext(values));
+  end
+end

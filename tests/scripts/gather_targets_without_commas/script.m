@@ -1,0 +1,2 @@
+[a b] = gather(1, 2)
+[c] = gather(3)

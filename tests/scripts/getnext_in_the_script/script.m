@@ -1,0 +1,1 @@
+x = getnext(1)

@@ -1,0 +1,3 @@
+ds = tabularTextDatastore('a.csv', 'TextscanFormats', {'%f', '%q'});
+T = tall(ds);
+G = groupsummary(T, 'g', 'min', 'v');

@@ -1,0 +1,3 @@
+ds = tabularTextDatastore('a.csv', 'TextscanFormats', {'%f', '%f', '%f'});
+T = tall(ds);
+x = groupsummary(T, 'g', 'sum', 'v').GroupCount + groupsummary(T, 'w', 'sum', 'v').GroupCount;

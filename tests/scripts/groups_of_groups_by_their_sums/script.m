@@ -1,0 +1,4 @@
+ds = tabularTextDatastore('a.csv', 'TextscanFormats', {'%q', '%f'}, 'ReadSize', READSIZE);
+T = tall(ds);
+G = groupsummary(T, 'g', 'sum', 'v');
+H = gather(groupsummary(G, 'sum_v'))

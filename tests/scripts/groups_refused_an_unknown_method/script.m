@@ -1,0 +1,3 @@
+ds = tabularTextDatastore('a.csv', 'TextscanFormats', {'%f', '%f'});
+T = tall(ds);
+G = groupsummary(T, 'g', 'mean', 'v');

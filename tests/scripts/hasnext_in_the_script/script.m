@@ -1,0 +1,1 @@
+x = hasnext(1)

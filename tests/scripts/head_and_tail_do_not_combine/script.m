@@ -1,0 +1,3 @@
+ds = tabularTextDatastore('a.csv', 'TextscanFormats', {'%f'});
+T = tall(ds);
+x = head(T.x, 2) + tail(T.x, 2);

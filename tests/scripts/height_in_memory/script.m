@@ -1,0 +1,4 @@
+ds = tabularTextDatastore('a.csv', 'TextscanFormats', {'%f'});
+T = tall(ds);
+t = gather(T);
+a = height(t)

@@ -1,0 +1,5 @@
+a = idivide(int8(7), -2)
+b = idivide(int8(7), -2, 'floor')
+c = idivide(int8(7), -2, 'ceil')
+d = idivide(int8(7), -2, 'round')
+e = idivide(int8(-7), -2)

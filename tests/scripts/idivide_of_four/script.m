@@ -1,0 +1,1 @@
+x = idivide(int8(7), 2, 'fix', 'fix')

@@ -1,0 +1,1 @@
+x = idivide(true, true)

@@ -1,0 +1,1 @@
+x = idivide(7, 2, 'up')

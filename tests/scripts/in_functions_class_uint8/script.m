@@ -1,0 +1,15 @@
+ds = tabularTextDatastore('a.csv', 'TextscanFormats', {'%f'}, 'ReadSize', 1);
+r = mapreduce(ds, @m, @q)
+v = r.Value
+
+function m(data, ~, store)
+  add(store, 1, intmax('uint8'));
+  add(store, 2, intmin('uint8'));
+  add(store, 3, uint8(data.x(1)));
+  add(store, 4, intmax('uint8') + 1);
+end
+function q(key, values, out)
+  while hasnext(values)
+    add(out, key, getnext(values));
+  end
+end

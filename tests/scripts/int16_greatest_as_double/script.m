@@ -1,0 +1,2 @@
+a = double(intmax('int16'))
+b = double(intmin('int16'))

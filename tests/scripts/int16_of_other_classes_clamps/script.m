@@ -1,0 +1,8 @@
+a = int16(9007199254740992)
+b = int16(-9007199254740992)
+c = int16(true)
+d = int16(NaN)
+e = int16(intmax('uint64'))
+f = int16(intmin('int64'))
+g = int16(intmax('int8'))
+h = int16(int16(-300))

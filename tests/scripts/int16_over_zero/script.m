@@ -1,0 +1,9 @@
+a = int16(5) ./ 0
+b = -int16(5) ./ 0
+c = int16(0) ./ 0
+d = idivide(int16(5), 0)
+e = idivide(-int16(5), int16(0), 'ceil')
+f = mod(int16(5), 0)
+g = 5 ./ int16(0)
+h = -5 ./ int16(0)
+k = int16(5) ./ false

@@ -1,0 +1,7 @@
+a = -intmin('int16')
+b = abs(intmin('int16'))
+c = +intmin('int16')
+d = -intmax('int16')
+e = abs(int16(-5))
+f = +int16(-5)
+g = -int16(5)

@@ -1,0 +1,9 @@
+a = intmax('int16') + 1
+b = intmin('int16') - 1
+c = intmax('int16') - intmin('int16')
+d = intmin('int16') - intmax('int16')
+e = int16(3) + int16(4)
+f = int16(3) - 5
+g = 5 - int16(3)
+h = int16(5) + true
+k = true - int16(5)

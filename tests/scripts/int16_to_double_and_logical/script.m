@@ -1,0 +1,6 @@
+a = double(int16(5))
+b = logical(int16(5))
+c = logical(int16(0))
+d = isnan(int16(5))
+e = ~int16(5)
+f = ~int16(0)

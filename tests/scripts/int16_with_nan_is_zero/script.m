@@ -1,0 +1,9 @@
+a = int16(5) + NaN
+b = NaN - int16(5)
+c = int16(5) .* NaN
+d = NaN ./ int16(5)
+e = int16(5) ./ NaN
+f = mod(int16(5), NaN)
+g = idivide(int16(5), NaN)
+h = int16(NaN)
+k = bitor(int16(5), NaN)

@@ -1,0 +1,3 @@
+ds = tabularTextDatastore('a.csv', 'TextscanFormats', {'%d32', '%d64'});
+T = tall(ds);
+z = bitand(T.x, T.y);

@@ -1,0 +1,2 @@
+a = double(intmax('int32'))
+b = double(intmin('int32'))

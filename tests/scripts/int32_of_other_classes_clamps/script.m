@@ -1,0 +1,8 @@
+a = int32(9007199254740992)
+b = int32(-9007199254740992)
+c = int32(true)
+d = int32(NaN)
+e = int32(intmax('uint64'))
+f = int32(intmin('int64'))
+g = int32(intmax('int8'))
+h = int32(int16(-300))

@@ -1,0 +1,9 @@
+a = int32(5) ./ 0
+b = -int32(5) ./ 0
+c = int32(0) ./ 0
+d = idivide(int32(5), 0)
+e = idivide(-int32(5), int32(0), 'ceil')
+f = mod(int32(5), 0)
+g = 5 ./ int32(0)
+h = -5 ./ int32(0)
+k = int32(5) ./ false

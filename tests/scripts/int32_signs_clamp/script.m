@@ -1,0 +1,7 @@
+a = -intmin('int32')
+b = abs(intmin('int32'))
+c = +intmin('int32')
+d = -intmax('int32')
+e = abs(int32(-5))
+f = +int32(-5)
+g = -int32(5)

@@ -1,0 +1,9 @@
+a = intmax('int32') + 1
+b = intmin('int32') - 1
+c = intmax('int32') - intmin('int32')
+d = intmin('int32') - intmax('int32')
+e = int32(3) + int32(4)
+f = int32(3) - 5
+g = 5 - int32(3)
+h = int32(5) + true
+k = true - int32(5)

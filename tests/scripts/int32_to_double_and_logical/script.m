@@ -1,0 +1,6 @@
+a = double(int32(5))
+b = logical(int32(5))
+c = logical(int32(0))
+d = isnan(int32(5))
+e = ~int32(5)
+f = ~int32(0)

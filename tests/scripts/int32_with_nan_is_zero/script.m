@@ -1,0 +1,9 @@
+a = int32(5) + NaN
+b = NaN - int32(5)
+c = int32(5) .* NaN
+d = NaN ./ int32(5)
+e = int32(5) ./ NaN
+f = mod(int32(5), NaN)
+g = idivide(int32(5), NaN)
+h = int32(NaN)
+k = bitor(int32(5), NaN)

@@ -1,0 +1,3 @@
+ds = tabularTextDatastore('a.csv', 'TextscanFormats', {'%d64', '%u8'});
+T = tall(ds);
+z = bitand(T.x, T.y);

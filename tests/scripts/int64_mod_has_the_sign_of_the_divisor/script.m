@@ -1,0 +1,4 @@
+ds = tabularTextDatastore('a.csv', 'TextscanFormats', {'%d64'});
+T = tall(ds);
+
+[a, b, c] = gather(mod(T.x, 3), mod(T.x, -3), mod(T.x, 0))

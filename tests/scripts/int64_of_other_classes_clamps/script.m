@@ -1,0 +1,8 @@
+a = int64(9007199254740992)
+b = int64(-9007199254740992)
+c = int64(true)
+d = int64(NaN)
+e = int64(intmax('uint64'))
+f = int64(intmin('int64'))
+g = int64(intmax('int8'))
+h = int64(int16(-300))

@@ -1,0 +1,9 @@
+a = int64(5) ./ 0
+b = -int64(5) ./ 0
+c = int64(0) ./ 0
+d = idivide(int64(5), 0)
+e = idivide(-int64(5), int64(0), 'ceil')
+f = mod(int64(5), 0)
+g = 5 ./ int64(0)
+h = -5 ./ int64(0)
+k = int64(5) ./ false

@@ -1,0 +1,7 @@
+a = -intmin('int64')
+b = abs(intmin('int64'))
+c = +intmin('int64')
+d = -intmax('int64')
+e = abs(int64(-5))
+f = +int64(-5)
+g = -int64(5)

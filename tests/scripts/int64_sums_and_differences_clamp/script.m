@@ -1,0 +1,9 @@
+a = intmax('int64') + 1
+b = intmin('int64') - 1
+c = intmax('int64') - intmin('int64')
+d = intmin('int64') - intmax('int64')
+e = int64(3) + int64(4)
+f = int64(3) - 5
+g = 5 - int64(3)
+h = int64(5) + true
+k = true - int64(5)

@@ -1,0 +1,6 @@
+a = double(int64(5))
+b = logical(int64(5))
+c = logical(int64(0))
+d = isnan(int64(5))
+e = ~int64(5)
+f = ~int64(0)

@@ -1,0 +1,9 @@
+a = int64(5) + NaN
+b = NaN - int64(5)
+c = int64(5) .* NaN
+d = NaN ./ int64(5)
+e = int64(5) ./ NaN
+f = mod(int64(5), NaN)
+g = idivide(int64(5), NaN)
+h = int64(NaN)
+k = bitor(int64(5), NaN)

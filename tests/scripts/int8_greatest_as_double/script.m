@@ -1,0 +1,2 @@
+a = double(intmax('int8'))
+b = double(intmin('int8'))

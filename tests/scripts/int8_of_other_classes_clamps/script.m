@@ -1,0 +1,8 @@
+a = int8(9007199254740992)
+b = int8(-9007199254740992)
+c = int8(true)
+d = int8(NaN)
+e = int8(intmax('uint64'))
+f = int8(intmin('int64'))
+g = int8(intmax('int8'))
+h = int8(int16(-300))

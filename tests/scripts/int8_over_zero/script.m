@@ -1,0 +1,9 @@
+a = int8(5) ./ 0
+b = -int8(5) ./ 0
+c = int8(0) ./ 0
+d = idivide(int8(5), 0)
+e = idivide(-int8(5), int8(0), 'ceil')
+f = mod(int8(5), 0)
+g = 5 ./ int8(0)
+h = -5 ./ int8(0)
+k = int8(5) ./ false

@@ -1,0 +1,7 @@
+a = -intmin('int8')
+b = abs(intmin('int8'))
+c = +intmin('int8')
+d = -intmax('int8')
+e = abs(int8(-5))
+f = +int8(-5)
+g = -int8(5)

@@ -1,0 +1,9 @@
+a = intmax('int8') + 1
+b = intmin('int8') - 1
+c = intmax('int8') - intmin('int8')
+d = intmin('int8') - intmax('int8')
+e = int8(3) + int8(4)
+f = int8(3) - 5
+g = 5 - int8(3)
+h = int8(5) + true
+k = true - int8(5)

@@ -1,0 +1,6 @@
+a = double(int8(5))
+b = logical(int8(5))
+c = logical(int8(0))
+d = isnan(int8(5))
+e = ~int8(5)
+f = ~int8(0)

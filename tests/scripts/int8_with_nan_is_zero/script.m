@@ -1,0 +1,9 @@
+a = int8(5) + NaN
+b = NaN - int8(5)
+c = int8(5) .* NaN
+d = NaN ./ int8(5)
+e = int8(5) ./ NaN
+f = mod(int8(5), NaN)
+g = idivide(int8(5), NaN)
+h = int8(NaN)
+k = bitor(int8(5), NaN)

@@ -1,0 +1,11 @@
+ds = tabularTextDatastore('a.csv', 'TextscanFormats', {'%f'}, 'ReadSize', 1);
+r = mapreduce(ds, @m, @q)
+function m(data, ~, store)
+  add(store, 1, 1);
+  add(store, 'a', 'b');
+end
+function q(key, values, out)
+  while hasnext(values)
+    add(out, key, getnext(values));
+  end
+end

@@ -1,0 +1,4 @@
+ds = tabularTextDatastore('a.csv');
+r = mapreduce(@m, @m, ds);
+function m(a, b, c)
+end

@@ -1,0 +1,3 @@
+ds = tabularTextDatastore('a.csv', 'TextscanFormats', {'%f', '%u16', '%q'});
+T = tall(ds);
+t = gather(T)

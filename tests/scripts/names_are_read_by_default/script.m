@@ -1,0 +1,3 @@
+ds = tabularTextDatastore('a.csv', 'ReadVariableNames', true);
+T = tall(ds);
+t = gather(T)

@@ -1,0 +1,5 @@
+ds = tabularTextDatastore('a.csv', 'TextscanFormats', {'%f'});
+T = tall(ds);
+x = gather(T.x)
+y = x + 1
+z = x(1)

@@ -1,0 +1,4 @@
+ds = tabularTextDatastore('a.csv');
+ds.TextscanFormats = {'%d8', '%q'};
+T = tall(ds);
+t = gather(T)

@@ -1,0 +1,2 @@
+ds = tabularTextDatastore('a.csv');
+ds.TextscanFormats = '%d8';

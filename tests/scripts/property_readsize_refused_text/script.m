@@ -1,0 +1,2 @@
+ds = tabularTextDatastore('a.csv');
+ds.ReadSize = 'x';

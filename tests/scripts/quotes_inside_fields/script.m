@@ -1,0 +1,3 @@
+ds = tabularTextDatastore('a.csv', 'TextscanFormats', {'%q', '%q'});
+T = tall(ds);
+t = gather(T)

@@ -1,0 +1,3 @@
+ds = tabularTextDatastore('a.csv', 'SelectedVariableNames', {'y', 'x'}, 'TextscanFormats', {'%f', '%f'});
+T = tall(ds);
+t = gather(T)

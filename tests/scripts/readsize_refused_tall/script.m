@@ -1,0 +1,3 @@
+d = tabularTextDatastore('a.csv');
+T = tall(d);
+ds = tabularTextDatastore('a.csv', 'ReadSize', max(T.x));

@@ -1,0 +1,13 @@
+ds = tabularTextDatastore('a.csv', 'TextscanFormats', {'%f'}, 'ReadSize', 1);
+r = mapreduce(ds, @m, @q)
+function m(data, ~, store)
+  add(store, 1, numel(data.x));
+end
+function q(key, values, out)
+  while hasnext(values)
+    x = getnext(values);
+    while hasnext(values)
+      y = 1;
+    end
+  end
+end

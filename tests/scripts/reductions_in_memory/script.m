@@ -1,0 +1,12 @@
+ds = tabularTextDatastore('a.csv', 'TextscanFormats', {'%f', '%d8'});
+T = tall(ds);
+[x, y] = gather(T.x, T.y);
+a = sum(x)
+b = sum(y, 'native')
+c = min(x)
+d = max(y)
+e = any(x > 1)
+f = all(x > 1)
+g = nnz(y)
+h = numel(x)
+k = sum(x, 'omitnan')

@@ -1,0 +1,5 @@
+ds = tabularTextDatastore('a.csv', 'TextscanFormats', {'%f'});
+T = tall(ds);
+x = gather(T.x);
+y = x(x > 2);
+z = y ./ 2

@@ -1,0 +1,3 @@
+ds = tabularTextDatastore('a.csv', 'SelectedVariableNames', 'b');
+T = tall(ds);
+t = gather(T)

@@ -1,0 +1,3 @@
+ds = tabularTextDatastore('a.csv', 'ReadVariableNames', false, 'SelectedVariableNames', 'Var2');
+T = tall(ds);
+t = gather(T)

@@ -1,0 +1,1 @@
+x = bitand('a', int8(1))

@@ -1,0 +1,1 @@
+x = idivide('a', int8(1))

@@ -1,0 +1,3 @@
+function f(a, b, c)
+  foo(1);
+end

@@ -1,0 +1,4 @@
+function f(a, b, c)
+for k = 3
+end
+end

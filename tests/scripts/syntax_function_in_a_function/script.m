@@ -1,0 +1,4 @@
+function f(a, b, c)
+function g(a, b, c)
+end
+end

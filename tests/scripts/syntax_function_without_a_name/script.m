@@ -1,0 +1,2 @@
+function (a, b, c)
+end

@@ -1,0 +1,3 @@
+function f(a, b, c)
+  [x, y] = gather(a, b);
+end

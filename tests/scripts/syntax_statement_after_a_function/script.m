@@ -1,0 +1,4 @@
+x = 1
+function f(a, b, c)
+end
+y = 2

@@ -1,0 +1,4 @@
+function f(a, b, c)
+end
+function f(a, b, c)
+end

@@ -1,0 +1,4 @@
+function f(a, b, c)
+while
+end
+end

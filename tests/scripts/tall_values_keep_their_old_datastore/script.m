@@ -1,0 +1,4 @@
+ds = tabularTextDatastore('a.csv');
+T = tall(ds);
+ds.SelectedVariableNames = 'b';
+t = gather(T)

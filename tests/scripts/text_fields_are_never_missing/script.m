@@ -1,0 +1,3 @@
+ds = tabularTextDatastore('a.csv', 'TreatAsMissing', 'NA', 'TextscanFormats', {'%q'});
+T = tall(ds);
+t = gather(T)

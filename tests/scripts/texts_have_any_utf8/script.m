@@ -1,0 +1,2 @@
+a = 'Zürich €'
+% Ωmega in a comment

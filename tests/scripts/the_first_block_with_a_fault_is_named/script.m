@@ -1,0 +1,15 @@
+ds = tabularTextDatastore('a.csv', 'TextscanFormats', {'%f'}, 'ReadSize', 1);
+r = mapreduce(ds, @m, @q)
+function m(data, ~, store)
+  if data.x(1) == 2
+    y = 1 ./ 0;
+  end
+  if data.x(1) == 3
+    y = 1 ./ 2;
+  end
+end
+function q(key, values, out)
+  while hasnext(values)
+    add(out, key, getnext(values));
+  end
+end

@@ -1,0 +1,3 @@
+ds = tabularTextDatastore('a.csv', 'SelectedVariableNames', 'a');
+T = tall(ds);
+t = gather(T)

@@ -1,0 +1,3 @@
+true
+a = false
+b = NaN

@@ -1,0 +1,13 @@
+a = true & true
+b = true & false
+c = false & true
+d = false & false
+e = true | true
+f = true | false
+g = false | true
+h = false | false
+k = ~true
+m = ~false
+n = 2 & 3
+o = 2 | 3
+p = ~-2

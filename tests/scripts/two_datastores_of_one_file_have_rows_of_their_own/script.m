@@ -1,0 +1,5 @@
+ds = tabularTextDatastore('a.csv');
+e = tabularTextDatastore('a.csv');
+T = tall(ds);
+U = tall(e);
+x = T.a + U.a;

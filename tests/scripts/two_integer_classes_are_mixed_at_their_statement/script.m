@@ -1,0 +1,3 @@
+ds = tabularTextDatastore('a.csv', 'TextscanFormats', {'%d16', '%d32'});
+T = tall(ds);
+z = T.x + T.y;

@@ -1,0 +1,3 @@
+ds = tabularTextDatastore('a.csv', 'TextscanFormats', {'%u16', '%u32'});
+T = tall(ds);
+z = bitand(T.x, T.y);

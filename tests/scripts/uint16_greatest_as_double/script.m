@@ -1,0 +1,2 @@
+a = double(intmax('uint16'))
+b = double(intmin('uint16'))

@@ -1,0 +1,8 @@
+a = uint16(9007199254740992)
+b = uint16(-9007199254740992)
+c = uint16(true)
+d = uint16(NaN)
+e = uint16(intmax('uint64'))
+f = uint16(intmin('int64'))
+g = uint16(intmax('int8'))
+h = uint16(int16(-300))

@@ -1,0 +1,9 @@
+a = uint16(5) ./ 0
+b = -uint16(5) ./ 0
+c = uint16(0) ./ 0
+d = idivide(uint16(5), 0)
+e = idivide(-uint16(5), uint16(0), 'ceil')
+f = mod(uint16(5), 0)
+g = 5 ./ uint16(0)
+h = -5 ./ uint16(0)
+k = uint16(5) ./ false

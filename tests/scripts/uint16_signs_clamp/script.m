@@ -1,0 +1,7 @@
+a = -intmin('uint16')
+b = abs(intmin('uint16'))
+c = +intmin('uint16')
+d = -intmax('uint16')
+e = abs(uint16(-5))
+f = +uint16(-5)
+g = -uint16(5)

@@ -1,0 +1,9 @@
+a = intmax('uint16') + 1
+b = intmin('uint16') - 1
+c = intmax('uint16') - intmin('uint16')
+d = intmin('uint16') - intmax('uint16')
+e = uint16(3) + uint16(4)
+f = uint16(3) - 5
+g = 5 - uint16(3)
+h = uint16(5) + true
+k = true - uint16(5)

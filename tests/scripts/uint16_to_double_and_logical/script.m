@@ -1,0 +1,6 @@
+a = double(uint16(5))
+b = logical(uint16(5))
+c = logical(uint16(0))
+d = isnan(uint16(5))
+e = ~uint16(5)
+f = ~uint16(0)

@@ -1,0 +1,9 @@
+a = uint16(5) + NaN
+b = NaN - uint16(5)
+c = uint16(5) .* NaN
+d = NaN ./ uint16(5)
+e = uint16(5) ./ NaN
+f = mod(uint16(5), NaN)
+g = idivide(uint16(5), NaN)
+h = uint16(NaN)
+k = bitor(uint16(5), NaN)

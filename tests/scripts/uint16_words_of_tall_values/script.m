@@ -1,0 +1,6 @@
+ds = tabularTextDatastore('a.csv', 'TextscanFormats', {'%u16'});
+T = tall(ds);
+a = T.x
+b = max(T.x)
+c = T.x > 1
+d = cumsum(T.x)

@@ -1,0 +1,3 @@
+ds = tabularTextDatastore('a.csv', 'TextscanFormats', {'%u32', '%u64'});
+T = tall(ds);
+z = bitand(T.x, T.y);

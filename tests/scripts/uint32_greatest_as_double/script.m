@@ -1,0 +1,2 @@
+a = double(intmax('uint32'))
+b = double(intmin('uint32'))

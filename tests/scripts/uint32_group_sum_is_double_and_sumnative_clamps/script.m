@@ -1,0 +1,5 @@
+ds = tabularTextDatastore('a.csv', 'TextscanFormats', {'%d8', '%u32'}, 'ReadSize', READSIZE);
+T = tall(ds);
+
+a = gather(groupsummary(T, 'g', 'sum', 'v'))
+b = gather(groupsummary(T, 'g', 'sumnative', 'v'))

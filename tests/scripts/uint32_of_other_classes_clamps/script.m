@@ -1,0 +1,8 @@
+a = uint32(9007199254740992)
+b = uint32(-9007199254740992)
+c = uint32(true)
+d = uint32(NaN)
+e = uint32(intmax('uint64'))
+f = uint32(intmin('int64'))
+g = uint32(intmax('int8'))
+h = uint32(int16(-300))

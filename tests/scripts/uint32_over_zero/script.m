@@ -1,0 +1,9 @@
+a = uint32(5) ./ 0
+b = -uint32(5) ./ 0
+c = uint32(0) ./ 0
+d = idivide(uint32(5), 0)
+e = idivide(-uint32(5), uint32(0), 'ceil')
+f = mod(uint32(5), 0)
+g = 5 ./ uint32(0)
+h = -5 ./ uint32(0)
+k = uint32(5) ./ false

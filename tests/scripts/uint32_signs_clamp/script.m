@@ -1,0 +1,7 @@
+a = -intmin('uint32')
+b = abs(intmin('uint32'))
+c = +intmin('uint32')
+d = -intmax('uint32')
+e = abs(uint32(-5))
+f = +uint32(-5)
+g = -uint32(5)

@@ -1,0 +1,9 @@
+a = intmax('uint32') + 1
+b = intmin('uint32') - 1
+c = intmax('uint32') - intmin('uint32')
+d = intmin('uint32') - intmax('uint32')
+e = uint32(3) + uint32(4)
+f = uint32(3) - 5
+g = 5 - uint32(3)
+h = uint32(5) + true
+k = true - uint32(5)

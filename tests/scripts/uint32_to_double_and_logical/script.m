@@ -1,0 +1,6 @@
+a = double(uint32(5))
+b = logical(uint32(5))
+c = logical(uint32(0))
+d = isnan(uint32(5))
+e = ~uint32(5)
+f = ~uint32(0)

@@ -1,0 +1,4 @@
+ds = tabularTextDatastore('a.csv', 'TextscanFormats', {'%u32'}, 'ReadSize', READSIZE);
+T = tall(ds);
+
+[u, h, e] = gather(unique(T.x), head(T.x, 2), tail(T.x, 2))

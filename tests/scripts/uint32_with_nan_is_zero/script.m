@@ -1,0 +1,9 @@
+a = uint32(5) + NaN
+b = NaN - uint32(5)
+c = uint32(5) .* NaN
+d = NaN ./ uint32(5)
+e = uint32(5) ./ NaN
+f = mod(uint32(5), NaN)
+g = idivide(uint32(5), NaN)
+h = uint32(NaN)
+k = bitor(uint32(5), NaN)

@@ -1,0 +1,4 @@
+ds = tabularTextDatastore('a.csv', 'TextscanFormats', {'%u64'});
+T = tall(ds);
+
+[a, b, c, d, e, f] = gather(T.x == 4, T.x ~= 4, T.x < 4, T.x <= 4, T.x > 4, T.x >= 4)

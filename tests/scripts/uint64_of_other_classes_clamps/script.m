@@ -1,0 +1,8 @@
+a = uint64(9007199254740992)
+b = uint64(-9007199254740992)
+c = uint64(true)
+d = uint64(NaN)
+e = uint64(intmax('uint64'))
+f = uint64(intmin('int64'))
+g = uint64(intmax('int8'))
+h = uint64(int16(-300))

@@ -1,0 +1,9 @@
+a = uint64(5) ./ 0
+b = -uint64(5) ./ 0
+c = uint64(0) ./ 0
+d = idivide(uint64(5), 0)
+e = idivide(-uint64(5), uint64(0), 'ceil')
+f = mod(uint64(5), 0)
+g = 5 ./ uint64(0)
+h = -5 ./ uint64(0)
+k = uint64(5) ./ false

@@ -1,0 +1,4 @@
+ds = tabularTextDatastore('a.csv', 'TextscanFormats', {'%u64'}, 'ReadSize', READSIZE);
+T = tall(ds);
+
+[s, a, b, n, k] = gather(sum(T.x), min(T.x), max(T.x), nnz(T.x), numel(T.x))

@@ -1,0 +1,7 @@
+a = -intmin('uint64')
+b = abs(intmin('uint64'))
+c = +intmin('uint64')
+d = -intmax('uint64')
+e = abs(uint64(-5))
+f = +uint64(-5)
+g = -uint64(5)

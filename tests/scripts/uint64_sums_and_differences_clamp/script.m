@@ -1,0 +1,9 @@
+a = intmax('uint64') + 1
+b = intmin('uint64') - 1
+c = intmax('uint64') - intmin('uint64')
+d = intmin('uint64') - intmax('uint64')
+e = uint64(3) + uint64(4)
+f = uint64(3) - 5
+g = 5 - uint64(3)
+h = uint64(5) + true
+k = true - uint64(5)

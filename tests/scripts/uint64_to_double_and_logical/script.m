@@ -1,0 +1,6 @@
+a = double(uint64(5))
+b = logical(uint64(5))
+c = logical(uint64(0))
+d = isnan(uint64(5))
+e = ~uint64(5)
+f = ~uint64(0)

@@ -1,0 +1,9 @@
+a = uint64(5) + NaN
+b = NaN - uint64(5)
+c = uint64(5) .* NaN
+d = NaN ./ uint64(5)
+e = uint64(5) ./ NaN
+f = mod(uint64(5), NaN)
+g = idivide(uint64(5), NaN)
+h = uint64(NaN)
+k = bitor(uint64(5), NaN)

@@ -1,0 +1,2 @@
+a = double(intmax('uint8'))
+b = double(intmin('uint8'))

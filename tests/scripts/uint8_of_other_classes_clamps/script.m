@@ -1,0 +1,8 @@
+a = uint8(9007199254740992)
+b = uint8(-9007199254740992)
+c = uint8(true)
+d = uint8(NaN)
+e = uint8(intmax('uint64'))
+f = uint8(intmin('int64'))
+g = uint8(intmax('int8'))
+h = uint8(int16(-300))

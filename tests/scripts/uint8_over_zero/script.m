@@ -1,0 +1,9 @@
+a = uint8(5) ./ 0
+b = -uint8(5) ./ 0
+c = uint8(0) ./ 0
+d = idivide(uint8(5), 0)
+e = idivide(-uint8(5), uint8(0), 'ceil')
+f = mod(uint8(5), 0)
+g = 5 ./ uint8(0)
+h = -5 ./ uint8(0)
+k = uint8(5) ./ false

@@ -1,0 +1,7 @@
+a = -intmin('uint8')
+b = abs(intmin('uint8'))
+c = +intmin('uint8')
+d = -intmax('uint8')
+e = abs(uint8(-5))
+f = +uint8(-5)
+g = -uint8(5)

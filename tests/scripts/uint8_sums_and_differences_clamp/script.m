@@ -1,0 +1,9 @@
+a = intmax('uint8') + 1
+b = intmin('uint8') - 1
+c = intmax('uint8') - intmin('uint8')
+d = intmin('uint8') - intmax('uint8')
+e = uint8(3) + uint8(4)
+f = uint8(3) - 5
+g = 5 - uint8(3)
+h = uint8(5) + true
+k = true - uint8(5)

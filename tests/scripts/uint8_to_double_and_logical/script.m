@@ -1,0 +1,6 @@
+a = double(uint8(5))
+b = logical(uint8(5))
+c = logical(uint8(0))
+d = isnan(uint8(5))
+e = ~uint8(5)
+f = ~uint8(0)

@@ -1,0 +1,9 @@
+a = uint8(5) + NaN
+b = NaN - uint8(5)
+c = uint8(5) .* NaN
+d = NaN ./ uint8(5)
+e = uint8(5) ./ NaN
+f = mod(uint8(5), NaN)
+g = idivide(uint8(5), NaN)
+h = uint8(NaN)
+k = bitor(uint8(5), NaN)

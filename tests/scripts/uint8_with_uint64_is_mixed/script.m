@@ -1,0 +1,2 @@
+e = uint8(1) == uint64(1)
+z = uint8(1) + uint64(1);

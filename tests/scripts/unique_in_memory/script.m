@@ -1,0 +1,4 @@
+ds = tabularTextDatastore('a.csv', 'TextscanFormats', {'%f'});
+T = tall(ds);
+x = gather(T.x);
+a = unique(x)

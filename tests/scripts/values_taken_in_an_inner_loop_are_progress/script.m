@@ -1,0 +1,14 @@
+ds = tabularTextDatastore('a.csv', 'TextscanFormats', {'%f'}, 'ReadSize', 1);
+r = mapreduce(ds, @m, @q)
+function m(data, ~, store)
+  add(store, 1, data.x(1));
+end
+function q(key, values, out)
+  n = 0;
+  while hasnext(values)
+    for k = 1:2
+      n = n + getnext(values);
+    end
+  end
+  add(out, key, n);
+end

@@ -1,0 +1,3 @@
+ds = tabularTextDatastore('a.csv', 'ReadVariableNames', false);
+T = tall(ds);
+t = gather(T)

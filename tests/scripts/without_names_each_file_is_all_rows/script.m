@@ -1,0 +1,3 @@
+ds = tabularTextDatastore({'a.csv', 'b.csv'}, 'ReadVariableNames', false);
+T = tall(ds);
+t = gather(T)
