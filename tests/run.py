@@ -14,6 +14,9 @@ script reads:
                workers; the answer may not change
     make.py    a program that writes data files; it is run first
 
+tests/pending names the cases, one a line, that the program can't pass yet though it doesn't say that it is not built; each
+is run all the same, and one that passes fails the suite until its name is taken off the list.
+
 A case runs in a copy of its folder, without the files of this list but the script. It passes where the bytes of both
 outputs and the status are the expected ones. It is skipped where something else is expected and the program answers that
 it is not built yet. Each difference is printed; the last line counts the cases, and the status is 1 where one failed.
@@ -32,6 +35,7 @@ SUITE = [ROOT / "tests" / "scripts", ROOT / "examples"]
 NOT_DATA = {"length", "words", "stdout", "stderr", "status", "vary"}
 READ_SIZES = ["1", "2", "3", "7", "20000"]
 WORKERS = ["1", "2", "4", "8"]
+PENDING = pathlib.Path(__file__).resolve().parent / "pending"
 NOT_BUILT = b"tallrun: not built\n"
 SECONDS = 60
 
@@ -94,8 +98,18 @@ def run_once(program, case, size, words):
     return differences, bool(differences) and done.stderr == NOT_BUILT
 
 
-def run_case(program, folder):
-    """Answers the case's outcome and the lines that tell the differences."""
+def run_case(program, folder, pending):
+    """Answers the case's outcome and the lines that tell the differences, where these are not what is expected today."""
+    outcome, lines = compare(program, folder)
+    if folder.name not in pending:
+        return outcome, lines
+    if outcome == "passed":
+        return "failed", [f"{folder.name}: passes, and stands in tests/pending"]
+    return "skipped", []
+
+
+def compare(program, folder):
+    """Answers how a case ends, passed, failed or skipped, and the lines that tell the differences."""
     case = Case(folder)
     outcome = "passed"
     for size, words in case.variants():
@@ -121,9 +135,10 @@ def main():
         parser.error(f"no program {options.program}")
     program = str(pathlib.Path(program).resolve())
     folders = sorted(path for root in SUITE for path in root.iterdir() if path.is_dir() and options.only in path.name)
+    pending = set(PENDING.read_text().split()) if PENDING.exists() else set()
     counts = {"passed": 0, "failed": 0, "skipped": 0}
     with concurrent.futures.ThreadPoolExecutor(max(1, options.jobs)) as pool:
-        for outcome, lines in pool.map(lambda folder: run_case(program, folder), folders):
+        for outcome, lines in pool.map(lambda folder: run_case(program, folder, pending), folders):
             counts[outcome] += 1
             for line in lines:
                 print(line)
