@@ -11,58 +11,77 @@ fn nan<'a>() -> Cell<'a> {
     Cell::Double(Whole::nan())
 }
 
-fn two_give(rt: &impl Abort, rows: &[(Binary, Cell<'_>, Cell<'_>, Result<Cell<'_>, CellFault>)]) {
+fn all_give(rt: &impl Abort, rows: &[(Binary, Cell<'_>, Cell<'_>, Cell<'_>)]) {
     for (op, a, b, want) in rows {
-        match (binary(*op, a, b), *want) {
-            (Ok(c), Ok(d)) => assert!(rt; c == d, "{op:?} {a:?} {b:?} gives {c:?}"),
-            (Err(e), Err(f)) => assert_eq!(rt; e, f, "{op:?} {a:?} {b:?}"),
-            _ => assert!(rt; false, "{op:?} {a:?} {b:?}"),
+        match binary(*op, a, b) {
+            Ok(c) => assert!(rt; c == *want, "{op:?} {a:?} {b:?} gives {c:?}"),
+            Err(e) => assert!(rt; false, "{op:?} {a:?} {b:?} is refused: {e:?}"),
         }
     }
 }
 
-fn one_gives(rt: &impl Abort, rows: &[(Unary, Cell<'_>, Result<Cell<'_>, CellFault>)]) {
+fn all_refuse(rt: &impl Abort, rows: &[(Binary, Cell<'_>, Cell<'_>, CellFault)]) {
+    for (op, a, b, want) in rows {
+        match binary(*op, a, b) {
+            Ok(c) => assert!(rt; false, "{op:?} {a:?} {b:?} gives {c:?}"),
+            Err(e) => assert_eq!(rt; e, *want, "{op:?} {a:?} {b:?}"),
+        }
+    }
+}
+
+fn all_make(rt: &impl Abort, rows: &[(Unary, Cell<'_>, Cell<'_>)]) {
     for (op, a, want) in rows {
-        match (unary(*op, a), *want) {
-            (Ok(c), Ok(d)) => assert!(rt; c == d, "{op:?} {a:?} gives {c:?}"),
-            (Err(e), Err(f)) => assert_eq!(rt; e, f, "{op:?} {a:?}"),
-            _ => assert!(rt; false, "{op:?} {a:?}"),
+        match unary(*op, a) {
+            Ok(c) => assert!(rt; c == *want, "{op:?} {a:?} gives {c:?}"),
+            Err(e) => assert!(rt; false, "{op:?} {a:?} is refused: {e:?}"),
+        }
+    }
+}
+
+fn all_fail(rt: &impl Abort, rows: &[(Unary, Cell<'_>, CellFault)]) {
+    for (op, a, want) in rows {
+        match unary(*op, a) {
+            Ok(c) => assert!(rt; false, "{op:?} {a:?} gives {c:?}"),
+            Err(e) => assert_eq!(rt; e, *want, "{op:?} {a:?}"),
         }
     }
 }
 
 #[test]
 fn calls(rt: HostRuntime) -> Result<(), Fail> {
-    two_give(
+    all_give(
         &rt,
         &[
-            (Binary::Add, Cell::I8(100), double(100), Ok(Cell::I8(127))),
-            (Binary::Add, nan(), double(1), Ok(nan())),
+            (Binary::Add, Cell::I8(100), double(100), Cell::I8(127)),
+            (Binary::Add, nan(), double(1), nan()),
             (
                 Binary::Lt,
                 Cell::Text("z"),
                 Cell::Text("é"),
-                Ok(Cell::Logical(true)),
+                Cell::Logical(true),
             ),
-            (Binary::Div, double(7), double(2), Err(CellFault::NotWhole)),
+        ],
+    );
+    all_refuse(
+        &rt,
+        &[
+            (Binary::Div, double(7), double(2), CellFault::NotWhole),
             (
                 Binary::And,
                 Cell::Logical(false),
                 nan(),
-                Err(CellFault::NanLogical),
+                CellFault::NanLogical,
             ),
         ],
     );
-    one_gives(
+    all_make(&rt, &[(Unary::ToUint8, Cell::I8(-5), Cell::U8(0))]);
+    all_fail(
         &rt,
-        &[
-            (Unary::ToUint8, Cell::I8(-5), Ok(Cell::U8(0))),
-            (
-                Unary::ToDouble,
-                Cell::I64(9007199254740993),
-                Err(CellFault::Inexact),
-            ),
-        ],
+        &[(
+            Unary::ToDouble,
+            Cell::I64(9007199254740993),
+            CellFault::Inexact,
+        )],
     );
     assert_eq!(rt;
         result_class(Binary::Add, Class::Int8, true, Class::Double, false),
