@@ -5,3 +5,6 @@ mod CallsKept
 mod LiftedValues
 pub mod CallsAppended
 pub mod ValuesKept
+mod StopsKept
+mod FunctionStops
+mod StoreKept

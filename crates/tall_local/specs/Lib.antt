@@ -18,6 +18,8 @@ pub mod Printing
 pub mod FaultLines
 pub mod StateLaws
 pub mod CallLaws
+pub mod FunctionFaults
+pub mod StoreLaws
 pub mod PrintingRows
 pub mod FaultLineRows
 pub mod LocalRows

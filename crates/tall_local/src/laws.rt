@@ -1,12 +1,15 @@
 //! Laws of the definitions, each the contract of a function without a body.
-ghost use Rattle.std.specs.Prelude.{◌≡◌, List, []};
+ghost use Rattle.std.specs.Prelude.{◌≡◌, ℕ, List, [], Ok};
 ghost use Rattle.tall_grammar.specs.Trees.{SeenFunction, Steps, Tree};
 ghost use Rattle.tall_local.specs.CallLaws.{Proceeds, HaveOneClass, state_of_run};
-ghost use Rattle.tall_local.specs.Calls.{behind_pairs, call_of, run_steps};
+ghost use Rattle.tall_column.specs.Columns.{SeenColumn};
+ghost use Rattle.tall_local.specs.Calls.{behind_pairs, call_map, call_of, call_reduce, run_steps};
 ghost use Rattle.tall_local.specs.Expressions.{value};
+ghost use Rattle.tall_local.specs.FunctionFaults.{IsOfFunctions};
 ghost use Rattle.tall_local.specs.Locals.{Held, Locals, function_language};
-ghost use Rattle.tall_local.specs.Pairs.{Pair};
+ghost use Rattle.tall_local.specs.Pairs.{Pair, appended, with_pair};
 ghost use Rattle.tall_local.specs.StateLaws.{TakesOn, state_after};
+ghost use Rattle.tall_local.specs.StoreLaws.{IsStore};
 ghost use Rattle.tall_value.specs.Cells.{Seen};
 
 /// An expression of a function takes values of the iterator, which never goes back, and changes nothing else.
@@ -29,4 +32,20 @@ pub fn a_store_keeps_its_classes()
 /// the call's own fault.
 pub fn a_call_on_a_store_is_appended()
     ensures { (f : SeenFunction) (arguments : List Held) (key_values : List Seen) (pairs : List Pair) → call_of f arguments key_values pairs ≡ behind_pairs pairs (call_of f arguments key_values []) }
+{}
+
+/// The fault of a call of a map or of a reduce function is one of the list of docs/LANGUAGE.md, mapreduce: none of files, of
+/// their fields, or of tall values of different rows.
+pub fn functions_have_the_faults_of_their_list()
+    ensures map { (f : SeenFunction) (block : List (List ℕ × SeenColumn)) (pairs : List Pair) → IsOfFunctions (call_map f block pairs).stop }
+    ensures reduce { (f : SeenFunction) (key : Seen) (key_values : List Seen) (pairs : List Pair) → IsOfFunctions (call_reduce f key key_values pairs).stop }
+{}
+
+/// A store has keys that a store takes, of one class, values of one class, and fewer than 2^40 pairs: at its start, with each
+/// pair that it takes, with the pairs of another store appended to it, and after each call.
+pub fn a_store_keeps_its_rules()
+    ensures start { IsStore [] }
+    ensures pair { (pairs more : List Pair) (p : Pair) → IsStore pairs → with_pair pairs p ≡ Ok more → IsStore more }
+    ensures appended { (pairs own : List Pair) → IsStore pairs → IsStore (appended pairs own).pairs }
+    ensures calls { (f : SeenFunction) (arguments : List Held) (key_values : List Seen) (pairs : List Pair) → IsStore pairs → IsStore (call_of f arguments key_values pairs).pairs }
 {}
