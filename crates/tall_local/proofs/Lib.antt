@@ -8,3 +8,4 @@ pub mod ValuesKept
 mod StopsKept
 mod FunctionStops
 mod StoreKept
+mod MemoryClasses

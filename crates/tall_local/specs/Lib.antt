@@ -20,6 +20,7 @@ pub mod StateLaws
 pub mod CallLaws
 pub mod FunctionFaults
 pub mod StoreLaws
+pub mod MemoryLaws
 pub mod PrintingRows
 pub mod FaultLineRows
 pub mod LocalRows

@@ -1,16 +1,25 @@
 //! Laws of the definitions, each the contract of a function without a body.
-ghost use Rattle.std.specs.Prelude.{◌≡◌, ℕ, List, [], Ok};
+ghost use Rattle.std.specs.Prelude.{◌≡◌, ℕ, List, [], Ok, Option};
 ghost use Rattle.tall_grammar.specs.Trees.{SeenFunction, Steps, Tree};
 ghost use Rattle.tall_local.specs.CallLaws.{Proceeds, HaveOneClass, state_of_run};
 ghost use Rattle.tall_column.specs.Columns.{SeenColumn};
 ghost use Rattle.tall_local.specs.Calls.{behind_pairs, call_map, call_of, call_reduce, run_steps};
 ghost use Rattle.tall_local.specs.Expressions.{value};
 ghost use Rattle.tall_local.specs.FunctionFaults.{IsOfFunctions};
+ghost use Rattle.tall_local.specs.Applications.{Application};
+ghost use Rattle.tall_local.specs.Arguments.{Index};
+ghost use Rattle.tall_local.specs.Memory.{Memory};
+ghost use Rattle.tall_local.specs.MemoryFunctions.{memory_application};
+ghost use Rattle.tall_local.specs.MemoryIndexing.{memory_index, memory_member};
+ghost use Rattle.tall_local.specs.MemoryLaws.{CanBeHeld, OnGiven, OperandsCanBeHeld};
+ghost use Rattle.tall_local.specs.MemoryOperators.{memory_binary, memory_unary};
 ghost use Rattle.tall_local.specs.Locals.{Held, Locals, function_language};
 ghost use Rattle.tall_local.specs.Pairs.{Pair, appended, with_pair};
 ghost use Rattle.tall_local.specs.StateLaws.{TakesOn, state_after};
 ghost use Rattle.tall_local.specs.StoreLaws.{IsStore};
 ghost use Rattle.tall_value.specs.Cells.{Seen};
+ghost use Rattle.tall_value.specs.declared.operators.Binary.{Binary};
+ghost use Rattle.tall_value.specs.declared.operators.Unary.{Unary};
 
 /// An expression of a function takes values of the iterator, which never goes back, and changes nothing else.
 pub fn expressions_of_functions_take_values_alone()
@@ -48,4 +57,14 @@ pub fn a_store_keeps_its_rules()
     ensures pair { (pairs more : List Pair) (p : Pair) → IsStore pairs → with_pair pairs p ≡ Ok more → IsStore more }
     ensures appended { (pairs own : List Pair) → IsStore pairs → IsStore (appended pairs own).pairs }
     ensures calls { (f : SeenFunction) (arguments : List Held) (key_values : List Seen) (pairs : List Pair) → IsStore pairs → IsStore (call_of f arguments key_values pairs).pairs }
+{}
+
+/// Values in memory are such as columns and tables can hold: cells have the class of their column, and the columns of a table
+/// have one height. Operators, indexes and functions give such values of such values.
+pub fn values_in_memory_have_their_classes()
+    ensures unary { (op : Unary) (v : Memory) → CanBeHeld v → OnGiven CanBeHeld (memory_unary op v) }
+    ensures binary { (op : Binary) (v w : Memory) → CanBeHeld v → CanBeHeld w → OnGiven CanBeHeld (memory_binary op v w) }
+    ensures index { (v : Memory) (i : Option (Index Memory)) → CanBeHeld v → OnGiven CanBeHeld (memory_index v i) }
+    ensures member { (v : Memory) (name : List ℕ) → CanBeHeld v → OnGiven CanBeHeld (memory_member v name) }
+    ensures functions { (a : Application Memory) → OperandsCanBeHeld a → OnGiven CanBeHeld (memory_application a) }
 {}

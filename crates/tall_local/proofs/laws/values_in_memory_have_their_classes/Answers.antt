@@ -1,0 +1,17 @@
+use Rattle.tall_local.proofs.MemoryClasses.{unary_held, binary_held, index_held, member_held, application_held}
+use Rattle.tall_local.proofs.laws.values_in_memory_have_their_classes.Goals as goal
+
+pub returns-clause-unary : goal.returns-clause-unary
+returns-clause-unary c = unary_held
+
+pub returns-clause-binary : goal.returns-clause-binary
+returns-clause-binary c = binary_held
+
+pub returns-clause-index : goal.returns-clause-index
+returns-clause-index c = index_held
+
+pub returns-clause-member : goal.returns-clause-member
+returns-clause-member c = member_held
+
+pub returns-clause-functions : goal.returns-clause-functions
+returns-clause-functions c = application_held
