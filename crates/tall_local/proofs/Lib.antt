@@ -9,3 +9,5 @@ mod StopsKept
 mod FunctionStops
 mod StoreKept
 mod MemoryClasses
+mod ApplicationOperands
+mod LocalsHeld

@@ -7,14 +7,10 @@ use Rattle.tall_grammar.specs.Trees.{Tree, tree, Args, no_args, value_arg, colon
 use Rattle.tall_grammar.specs.Trees as trees
 use Rattle.tall_local.specs.Arguments.{Argument, given, colon, function}
 use Rattle.tall_local.specs.Expressions.{Language, Valued, gives, stops, go_on, answered, Callee, a_function, no_function, a_value, callee, handle_in, call_value, argument, value, arguments}
-use Rattle.tall_local.specs.Memory.{Memory}
+use Rattle.tall_local.specs.Memory.{Memory, scalar, column, table, texts}
 use Rattle.tall_local.specs.Refusals.{Refusal, undefined, stop_at}
+use Rattle.tall_local.specs.MemoryLaws.{OnGiven}
 use Rattle.tall_local.specs.StateLaws.{IsKept}
-
--- what an answer gives is so
-abbrev pub OnGiven : {V : Type 0} → (V → Type 0) → Result V Refusal → Type 0
-OnGiven Is (Ok v) = Is v
-OnGiven Is (Err e) = Unit {0}
 
 -- an argument that is a value is so
 abbrev pub ArgumentIs : {V : Type 0} → (V → Type 0) → Argument V → Type 0
@@ -26,6 +22,13 @@ abbrev pub ArgumentsAre : {V : Type 0} → (V → Type 0) → List (Argument V) 
 ArgumentsAre Is [] = Unit {0}
 ArgumentsAre Is (a ∷ args) = ArgumentIs Is a × ArgumentsAre Is args
 
+-- a cell or a list of texts
+abbrev pub IsLiteral : Memory → Type 0
+IsLiteral (scalar c) = Unit {0}
+IsLiteral (column x) = ⊥
+IsLiteral (table t) = ⊥
+IsLiteral (texts ts) = Unit {0}
+
 -- an expression leaves a later state that is well, and gives what is so in it
 abbrev pub Gives : {W S : Type 0} → (S → S → Type 0) → (S → Type 0) → (S → W → Type 0) → S → Valued W S → Type 0
 Gives R Well Is s (gives w t) = R s t × Well t × Is t w
@@ -33,7 +36,7 @@ Gives R Well Is s (stops stop t) = R s t × Well t
 
 module _ {F V S : Type 0} (L : Language F V S) (R : S → S → Type 0) (kept : IsKept R) (Well : S → Type 0) (Is : S → V → Type 0)
     (later : (s t : S) (v : V) → R s t → Is s v → Is t v)
-    (literals : (s : S) (m : Memory) → Is s (L.literal m))
+    (literals : (s : S) (m : Memory) → IsLiteral m → Is s (L.literal m))
     (names : (s : S) (x : List ℕ) → Well s → OnGiven (Is s) (L.name s x))
     (prefixes : (s : S) (n l : ℕ) (op : Prefix) (v : V) → Is s v → OnGiven (Is s) (L.prefix_value n l op v))
     (infixes : (s : S) (n l : ℕ) (op : Infix) (v w : V) → Is s v → Is s w → OnGiven (Is s) (L.infix_value n l op v w))
@@ -83,10 +86,10 @@ module _ {F V S : Type 0} (L : Language F V S) (R : S → S → Type 0) (kept : 
 
   mutual
     pub value_is : (e : Tree) (s : S) → Well s → Gives R Well Is s (value L e s)
-    value_is (tree n l (trees.number d)) s w = (kept.nothing s, w, literals s _)
-    value_is (tree n l (trees.text t)) s w = (kept.nothing s, w, literals s _)
+    value_is (tree n l (trees.number d)) s w = (kept.nothing s, w, literals s _ tt)
+    value_is (tree n l (trees.text t)) s w = (kept.nothing s, w, literals s _ tt)
     value_is (tree n l (trees.name x)) s w = an_answer l s (L.name s x) w (names s x w)
-    value_is (tree n l (trees.list es)) s w = (kept.nothing s, w, literals s _)
+    value_is (tree n l (trees.list es)) s w = (kept.nothing s, w, literals s _ tt)
     value_is (tree n l (trees.handle x)) s w = (kept.nothing s, w)
     value_is (tree n l (trees.prefixed op e)) s w =
         on Is Is s (value L e s) _ (value_is e s w) (λ v t r u i. an_answer l t (L.prefix_value n l op v) u (prefixes t n l op v i))

@@ -9,7 +9,8 @@ use Rattle.tall_column.specs.Columns.{SeenColumn}
 use Rattle.tall_column.specs.Tables.{height_of, HasHeight}
 use Rattle.tall_local.specs.Arguments.{Index, rows_at, all_variables_at}
 use Rattle.tall_local.specs.Applications.{Application, constant, to_one, to_two}
-use Rattle.tall_local.specs.Locals.{Held, value, store, iterator, no_value}
+use Rattle.tall_local.specs.Locals.{Held, value, store, iterator, no_value, Locals}
+use Rattle.tall_local.specs.Expressions.{Valued, gives, stops}
 use Rattle.tall_local.specs.Memory.{Memory, scalar, column, table, texts}
 use Rattle.tall_local.specs.Names.{names_of}
 
@@ -48,6 +49,11 @@ HeldCanBe no_value = Unit {0}
 abbrev pub NamesCanBeHeld : List (List ℕ × Held) → Type 0
 NamesCanBeHeld [] = Unit {0}
 NamesCanBeHeld (entry ∷ names) = HeldCanBe entry.1 × NamesCanBeHeld names
+
+-- an expression of a function gives such a value, and leaves such names
+abbrev pub GivesHeld : Valued Held Locals → Type 0
+GivesHeld (gives h s) = HeldCanBe h × NamesCanBeHeld s.names
+GivesHeld (stops stop s) = NamesCanBeHeld s.names
 
 -- ---- the table of `groupsummary`
 

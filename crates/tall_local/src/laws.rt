@@ -1,17 +1,18 @@
 //! Laws of the definitions, each the contract of a function without a body.
-ghost use Rattle.std.specs.Prelude.{◌≡◌, ℕ, List, [], Ok, Option};
+ghost use Rattle.std.specs.Prelude.{◌≡◌, ℕ, false, length, List, [], None, Ok, Option, Some, true};
 ghost use Rattle.tall_grammar.specs.Trees.{SeenFunction, Steps, Tree};
 ghost use Rattle.tall_local.specs.CallLaws.{Proceeds, HaveOneClass, state_of_run};
 ghost use Rattle.tall_column.specs.Columns.{SeenColumn};
 ghost use Rattle.tall_local.specs.Calls.{behind_pairs, call_map, call_of, call_reduce, run_steps};
 ghost use Rattle.tall_local.specs.Expressions.{value};
 ghost use Rattle.tall_local.specs.FunctionFaults.{IsOfFunctions};
-ghost use Rattle.tall_local.specs.Applications.{Application};
+ghost use Rattle.tall_local.specs.declared.functions.ValueFunction.{ValueFunction};
+ghost use Rattle.tall_local.specs.Applications.{Application, application, takes};
 ghost use Rattle.tall_local.specs.Arguments.{Index};
-ghost use Rattle.tall_local.specs.Memory.{Memory};
+ghost use Rattle.tall_local.specs.Memory.{Memory, scalar_in};
 ghost use Rattle.tall_local.specs.MemoryFunctions.{memory_application};
 ghost use Rattle.tall_local.specs.MemoryIndexing.{memory_index, memory_member};
-ghost use Rattle.tall_local.specs.MemoryLaws.{CanBeHeld, OnGiven, OperandsCanBeHeld};
+ghost use Rattle.tall_local.specs.MemoryLaws.{CanBeHeld, GivesHeld, NamesCanBeHeld, OnGiven, OperandsCanBeHeld};
 ghost use Rattle.tall_local.specs.MemoryOperators.{memory_binary, memory_unary};
 ghost use Rattle.tall_local.specs.Locals.{Held, Locals, function_language};
 ghost use Rattle.tall_local.specs.Pairs.{Pair, appended, with_pair};
@@ -67,4 +68,12 @@ pub fn values_in_memory_have_their_classes()
     ensures index { (v : Memory) (i : Option (Index Memory)) → CanBeHeld v → OnGiven CanBeHeld (memory_index v i) }
     ensures member { (v : Memory) (name : List ℕ) → CanBeHeld v → OnGiven CanBeHeld (memory_member v name) }
     ensures functions { (a : Application Memory) → OperandsCanBeHeld a → OnGiven CanBeHeld (memory_application a) }
+    ensures expressions { (key_values : List Seen) (e : Tree) (s : Locals) → NamesCanBeHeld s.names → GivesHeld (value (function_language key_values) e s) }
+{}
+
+/// `takes` says of numbers of arguments what `application` says of arguments: so many are too few or too many exactly where no
+/// arguments in memory of that number have an application.
+pub fn numbers_of_arguments_are_those_of_applications()
+    ensures refused { (f : ValueFunction) (vs : List Memory) → takes f (length vs) ≡ false → application scalar_in f vs ≡ None }
+    ensures taken { (f : ValueFunction) (n : ℕ) → takes f n ≡ true → (vs : List Memory) × (a : Application Memory) × (length vs ≡ n) × (application scalar_in f vs ≡ Some a) }
 {}

@@ -1,4 +1,5 @@
 use Rattle.tall_local.proofs.MemoryClasses.{unary_held, binary_held, index_held, member_held, application_held}
+use Rattle.tall_local.proofs.LocalsHeld.{expression_held}
 use Rattle.tall_local.proofs.laws.values_in_memory_have_their_classes.Goals as goal
 
 pub returns-clause-unary : goal.returns-clause-unary
@@ -15,3 +16,6 @@ returns-clause-member c = member_held
 
 pub returns-clause-functions : goal.returns-clause-functions
 returns-clause-functions c = application_held
+
+pub returns-clause-expressions : goal.returns-clause-expressions
+returns-clause-expressions c = expression_held
