@@ -11,3 +11,5 @@ mod StoreKept
 mod MemoryClasses
 mod ApplicationOperands
 mod LocalsHeld
+mod StepsHeld
+mod TurnsSuffice

@@ -423,3 +423,57 @@ unfolding memory_application
 application_held (constant c) h = tt
 application_held (to_one o v) h = operation_held o v h
 application_held (to_two op v w) h = binary_held op v w h.0 h.1
+
+-- ---- the table of `groupsummary`
+
+table_of : (names : List (List ℕ)) (kinds : List Kind) (columns : List (List Seen)) → length names ≡ length kinds → HaveKinds kinds columns
+    → IsTableOf names (map class_of kinds) (table (paired names (columns_of (map class_of kinds) columns)))
+table_of [] [] [] e h = (refl, refl)
+table_of [] [] (c ∷ columns) e h = absurd h
+table_of [] (k ∷ kinds) columns e h = absurd (omega (arith, e))
+table_of (name ∷ names) [] columns e h = absurd (omega (arith, e))
+table_of (name ∷ names) (k ∷ kinds) [] e h = absurd h
+table_of (name ∷ names) (k ∷ kinds) (c ∷ columns) e h =
+    let rest = table_of names kinds columns (omega (arith, e)) h.1 in (ap (λ ns. name ∷ ns) rest.0, ap (λ cs. class_of k ∷ cs) rest.1)
+
+with_three : (key : Kind) (r : Result Kind ClassFault) (ks : List Kind) → (elim r [ Ok k ↦ kinds_ok (key ∷ Double ∷ k ∷ []) | Err e ↦ Err e ]) ≡ kinds_ok ks → 3 ≡ length ks
+with_three key (Ok k) ks h = ap (λ (js : List Kind). length js) (same_ok (key ∷ Double ∷ k ∷ []) ks h)
+with_three key (Err e) ks h = absurd cc
+
+as_many_names : (m : Method) (key data' : Kind) (name value : List ℕ) (kinds : List Kind) → summary_kinds m key data' ≡ kinds_ok kinds
+    → length (summary_names m name value) ≡ length kinds
+as_many_names method.Count key data' name value kinds e = ap (λ (js : List Kind). length js) (same_ok (key ∷ Double ∷ []) kinds e)
+as_many_names method.Sum key data' name value kinds e = with_three key (method_kind method.Sum data') kinds e
+as_many_names method.SumNative key data' name value kinds e = with_three key (method_kind method.SumNative data') kinds e
+as_many_names method.Min key data' name value kinds e = with_three key (method_kind method.Min data') kinds e
+as_many_names method.Max key data' name value kinds e = with_three key (method_kind method.Max data') kinds e
+as_many_names method.Nnz key data' name value kinds e = with_three key (method_kind method.Nnz data') kinds e
+as_many_names method.Nummissing key data' name value kinds e = with_three key (method_kind method.Nummissing data') kinds e
+
+abbrev memory_ok : Memory → Result Memory Refusal
+memory_ok v = Ok v
+
+abbrev classes_ok : List Class → Result (List Class) ClassFault
+classes_ok cs = Ok cs
+
+summary_is : (names : List (List ℕ)) (kinds : List Kind) (w : Memory) (b : Bool) (r : Result (List (List Seen)) FaultKind) → length names ≡ length kinds
+    → ((columns : List (List Seen)) → r ≡ columns_ok columns → HaveKinds kinds columns)
+    → (if b then summary_result names (map class_of kinds) r else Err bad_argument) ≡ memory_ok w → IsTableOf names (map class_of kinds) w
+summary_is names kinds w true (Ok columns) e k h = subst (IsTableOf names (map class_of kinds)) (same_ok _ w h) (table_of names kinds columns e (k columns refl))
+summary_is names kinds w true (Err f) e k h = absurd cc
+summary_is names kinds w false r e k h = absurd cc
+
+of_kinds : (m : Method) (name value : List ℕ) (g v : SeenColumn) (classes : List Class) (w : Memory) (r : Result (List Kind) ClassFault) → length g.cells ≡ length v.cells
+    → HasItsClass g → HasItsClass v → summary_kinds m (kind_of g.class) (kind_of v.class) ≡ r → class_results r ≡ classes_ok classes
+    → with_classes (class_results r) (λ cs. if_distinct (summary_names m name value) (summary_result (summary_names m name value) cs (summary_columns m (kind_of_column v) g.cells v.cells))) ≡ memory_ok w
+    → IsTableOf (summary_names m name value) classes w
+of_kinds m name value g v classes w (Ok kinds) e p q is cs h =
+    subst (λ ks. IsTableOf (summary_names m name value) ks w) (same_ok (map class_of kinds) classes cs)
+    (summary_is (summary_names m name value) kinds w (are_distinct (summary_names m name value)) (summary_columns m (kind_of_column v) g.cells v.cells)
+    (as_many_names m (kind_of g.class) (kind_of v.class) name value kinds is)
+    (λ columns z. summary_kind m (kind_of g.class) (kind_of v.class) kinds g.cells v.cells columns e p q is z) h)
+of_kinds m name value g v classes w (Err f) e p q is cs h = absurd cc
+
+pub summary_table : (m : Method) (key value : List ℕ) (g v : SeenColumn) (classes : List Class) (w : Memory) → length g.cells ≡ length v.cells → HasItsClass g → HasItsClass v
+    → summary_classes m g.class v.class ≡ classes_ok classes → memory_summary m (summary_names m key value) g v ≡ memory_ok w → IsTableOf (summary_names m key value) classes w
+summary_table m key value g v classes w e p q cs h = of_kinds m key value g v classes w (summary_kinds m (kind_of g.class) (kind_of v.class)) e p q refl cs h
