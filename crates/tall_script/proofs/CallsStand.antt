@@ -22,7 +22,8 @@ use Rattle.tall_local.specs.Memory.{Memory}
 use Rattle.tall_local.specs.MemoryFunctions.{paired}
 use Rattle.tall_local.specs.Refusals.{Refusal, bad_argument, and_then}
 use Rattle.tall_local.specs.Values.{datastore, tall_table, deferred, in_memory}
-use Rattle.tall_local.proofs.ValuesKept.{OnGiven, ArgumentsAre}
+use Rattle.tall_local.specs.MemoryLaws.{OnGiven}
+use Rattle.tall_local.proofs.ValuesKept.{ArgumentsAre}
 use Rattle.tall_script.specs.ScriptValues.{TallValue, computed, tall_variable, over_columns, reduce_value, height_value, column_value, rows_value, parts_of, group_columns, summary_table, groups_value, operation_value, application_value, scalar_given}
 use Rattle.tall_script.specs.ScriptLanguage.{application_answer}
 use Rattle.tall_script.specs.WellFormed.{OutcomeStands, TallsStand, Stands}

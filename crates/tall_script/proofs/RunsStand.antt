@@ -28,7 +28,8 @@ use Rattle.tall_local.specs.Names.{named, put_name}
 use Rattle.tall_local.specs.Refusals.{Refusal, undefined, bad_argument, Stop, stop_at}
 use Rattle.tall_local.specs.StateLaws.{IsKept}
 use Rattle.tall_local.specs.Values.{datastore, tall_table, deferred, in_memory}
-use Rattle.tall_local.proofs.ValuesKept.{OnGiven, ArgumentsAre, Gives, value_is, arguments_are}
+use Rattle.tall_local.specs.MemoryLaws.{OnGiven}
+use Rattle.tall_local.proofs.ValuesKept.{ArgumentsAre, Gives, value_is, arguments_are}
 use Rattle.tall_script.specs.Datastores.{datastore_call, options_in, first_opening, made_store, store_with}
 use Rattle.tall_script.specs.Gathers.{answered_all, first_of, gather_all, gather_if, gather_one}
 use Rattle.tall_script.specs.Runs.{Run, next, run_from}
@@ -238,13 +239,13 @@ calls_stand setting n l Elsewhere args s w h = (same s, w)
 
 module _ (setting : Setting) where
   an_expression : (e : Tree) (s : State Tall) → IsWellFormed s → Leaves s (script_value setting e s)
-  an_expression e s w = value_is (script_language setting) Later later_kept IsWellFormed StandsIn (λ s t v h i. later_value (length s.stores) (length t.stores) v h i) (λ s m. tt)
+  an_expression e s w = value_is (script_language setting) Later later_kept IsWellFormed StandsIn (λ s t v h i. later_value (length s.stores) (length t.stores) v h i) (λ s m l. tt)
       (λ s x w. of_name (length s.stores) s.names x w) (λ s n l o v h. prefix_stands (length s.stores) (place n l) o v h)
       (λ s n l o v x h k. infix_stands (length s.stores) (place n l) o v x h k) (λ s v x h. member_stands (length s.stores) v x h)
       (λ s n l v args h k. index_stands (length s.stores) (place n l) v args h k) (λ n l f args s w h. calls_stand setting n l f args s w h) e s w
 
   some_arguments : (args : Args) (s : State Tall) → IsWellFormed s → Gives Later IsWellFormed (λ t given. ArgumentsAre (StandsIn t) given) s (arguments (script_language setting) args false s)
-  some_arguments args s w = arguments_are (script_language setting) Later later_kept IsWellFormed StandsIn (λ s t v h i. later_value (length s.stores) (length t.stores) v h i) (λ s m. tt)
+  some_arguments args s w = arguments_are (script_language setting) Later later_kept IsWellFormed StandsIn (λ s t v h i. later_value (length s.stores) (length t.stores) v h i) (λ s m l. tt)
       (λ s x w. of_name (length s.stores) s.names x w) (λ s n l o v h. prefix_stands (length s.stores) (place n l) o v h)
       (λ s n l o v x h k. infix_stands (length s.stores) (place n l) o v x h k) (λ s v x h. member_stands (length s.stores) v x h)
       (λ s n l v args h k. index_stands (length s.stores) (place n l) v args h k) (λ n l f args s w h. calls_stand setting n l f args s w h) args false s w

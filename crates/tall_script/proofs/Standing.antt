@@ -12,7 +12,7 @@ use Rattle.tall_semantics.specs.Operations as op
 use Rattle.tall_semantics.specs.Outcomes.{Outcome, rows, scalar, fault, fault_of, row_by_row, alone, elementwise_one, elementwise_two, part_of_group}
 use Rattle.tall_semantics.specs.Shapes as shapes
 use Rattle.tall_semantics.specs.Talls.{Tall, tall, outcome, outcomes, own_outcome, unless, with_shape}
-use Rattle.tall_local.proofs.ValuesKept.{OnGiven}
+use Rattle.tall_local.specs.MemoryLaws.{OnGiven}
 use Rattle.tall_script.specs.ScriptValues.{computed as made, refusal_of}
 use Rattle.tall_script.specs.WellFormed.{IsOfDatastore, OutcomeStands}
 
