@@ -26,7 +26,7 @@ use Rattle.tall_local.specs.MemoryLaws.{OnGiven}
 use Rattle.tall_local.proofs.ValuesKept.{ArgumentsAre}
 use Rattle.tall_script.specs.ScriptValues.{TallValue, computed, tall_variable, over_columns, reduce_value, height_value, column_value, rows_value, parts_of, group_columns, summary_table, groups_value, operation_value, application_value, scalar_given}
 use Rattle.tall_script.specs.ScriptLanguage.{application_answer}
-use Rattle.tall_script.specs.WellFormed.{OutcomeStands, TallsStand, Stands}
+use Rattle.tall_script.specs.WellFormed.{TallStands, TallsStand, Stands}
 use Rattle.tall_script.proofs.Standing.{AllStand, made_stands}
 use Rattle.tall_script.proofs.StatesStand.{Answers, IsTall, memory, one, two, defers, columns_stand, a_table, of_name, then_answers}
 
@@ -114,7 +114,7 @@ module _ (n : ℕ) where
   in_memory_at_once at (groups key m value) v = memory n _
   in_memory_at_once at (unary o) v = memory n _
 
-  deferred_operation : (at : At) (o : Operation) (x : Tall) → OutcomeStands n x.outcome → Answers n (operation_value at o (deferred x))
+  deferred_operation : (at : At) (o : Operation) (x : Tall) → TallStands n x → Answers n (operation_value at o (deferred x))
   deferred_operation at (reduce r) x h = reduces at r (deferred x) h
   deferred_operation at height x h = tt
   deferred_operation at (scan s) x h = column at (op.scan s) (deferred x) h

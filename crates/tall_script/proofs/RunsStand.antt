@@ -1,15 +1,19 @@
 -- A run keeps its state well formed.
-use Rattle.std.proofs.Common.{◌≡◌, ℕ, suc, ◌≤◌, ◌<◌, ◌+◌, List, [], ◌∷◌, ◌++◌, Bool, true, false, arith}
+use Rattle.std.proofs.Common.{◌≡◌, ℕ, zero, suc, ◌≤◌, ◌<◌, ◌+◌, List, [], ◌∷◌, ◌++◌, Bool, true, false, refl, sym, ap, ◌∙◌, subst, arith}
+use Rattle.std.proofs.lemmas.Bool.{eqb-true}
+use Rattle.std.proofs.lemmas.Option.{none-some}
+use Rattle.std.proofs.lemmas.List.Elements.{All-nil, All-cons}
 use Rattle.std.proofs.lemmas.List.{length-append}
-use Rattle.std.specs.Prelude.{if◌then◌else◌, ◌==◌, length, slice_get, codes, Option, None, Some, Result, Ok, Err}
+use Rattle.std.specs.List.{flat_map}
+use Rattle.std.specs.Prelude.{if◌then◌else◌, ◌==◌, map, length, slice_get, codes, Option, None, Some, Result, Ok, Err}
 use Rattle.std.specs.Str.{bytes_eq}
 use Rattle.tall_value.specs.Cells.{Seen}
 use Rattle.tall_outside.specs.Shelf.{Files}
-use Rattle.tall_grammar.specs.Trees.{Args, Body, assigned, gathered, property, bare, SeenStatement, SeenFunction, Tree, tree}
+use Rattle.tall_grammar.specs.Trees.{Args, Body, assigned, property, bare, SeenStatement, SeenFunction, Tree, tree}
 use Rattle.tall_grammar.specs.Trees as trees
-use Rattle.tall_semantics.specs.Faults.{At, Cause, computed, reading}
-use Rattle.tall_semantics.specs.Outcomes.{Outcome, rows, scalar, fault}
-use Rattle.tall_semantics.specs.Talls.{Tall}
+use Rattle.tall_semantics.specs.Faults.{At, Cause, computed, reading, Fault, earlier, least_fault, precedes}
+use Rattle.tall_semantics.specs.Outcomes.{Outcome, rows, scalar, fault, fault_of}
+use Rattle.tall_semantics.specs.Talls.{Tall, outcomes, shapes}
 use Rattle.tall_store.specs.declared.faults.ReadingFault.{ReadingFault}
 use Rattle.tall_store.specs.declared.faults.StoreFault.{StoreFault}
 use Rattle.tall_store.specs.Opening.{opening}
@@ -19,9 +23,10 @@ use Rattle.tall_store.specs.Stores.{SeenStore}
 use Rattle.tall_local.specs.declared.functions.ScriptFunction.{ScriptFunction}
 use Rattle.tall_local.specs.declared.functions.ScriptFunction.TheVariants.{OfValues, TabularTextDatastore, Tall as TallOf, Gather, MapReduce, ReadAll, Elsewhere}
 use Rattle.tall_local.specs.Arguments.{Argument, value_given}
+use Rattle.tall_local.specs.Arguments as argument
 use Rattle.tall_local.specs.Constants.{constant_named}
-use Rattle.tall_local.specs.Expressions.{Valued, gives, stops, answered, arguments}
-use Rattle.tall_local.specs.Lists.{all_of}
+use Rattle.tall_local.specs.Expressions.{Valued, gives, stops, go_on, answered, arguments}
+use Rattle.tall_local.specs.Lists.{all_of, each_of}
 use Rattle.tall_local.specs.Memory.{Memory, table}
 use Rattle.tall_local.specs.Memory as memory
 use Rattle.tall_local.specs.Names.{named, put_name}
@@ -31,7 +36,7 @@ use Rattle.tall_local.specs.Values.{datastore, tall_table, deferred, in_memory}
 use Rattle.tall_local.specs.MemoryLaws.{OnGiven}
 use Rattle.tall_local.proofs.ValuesKept.{ArgumentsAre, Gives, value_is, arguments_are}
 use Rattle.tall_script.specs.Datastores.{datastore_call, options_in, first_opening, made_store, store_with}
-use Rattle.tall_script.specs.Gathers.{answered_all, first_of, gather_all, gather_if, gather_one}
+use Rattle.tall_script.specs.Gathers.{answered_all, values_or_fault, gathered, gather_all, gather_if, gather_one, gather_openings, gather_value, talls_in}
 use Rattle.tall_script.specs.Runs.{Run, next, run_from}
 use Rattle.tall_script.specs.ScriptLanguage.{Setting, place, read_name, readall_answer, mapreduce_with, reduced_arguments, reduce_store, script_call, script_language, script_value, table_or_stop}
 use Rattle.tall_script.specs.ScriptValues.{TallValue}
@@ -40,33 +45,35 @@ use Rattle.tall_script.specs.States.{State, Store, with_openings}
 use Rattle.tall_script.specs.StatesFollow.{done_state}
 use Rattle.tall_stored.specs.StoredColumns.{stored_outcome}
 use Rattle.tall_script.specs.TallTables.{stored_variables, tall_of, tall_of_store, tall_call}
-use Rattle.tall_script.specs.WellFormed.{IsOfDatastore, OutcomeStands, TallsStand, Stands, NamesStand, IsWellFormed}
+use Rattle.tall_script.specs.WellFormed.{IsReadingOf, OutcomeStands, TallStands, TallsStand, Stands, NamesStand, IsWellFormed, GivesStanding, ArgumentsStand, GiveStanding, HasNoFault, HaveNoFault}
 use Rattle.tall_script.proofs.CallsStand.{AreStanding, ValuesStand, all_values, function_stands}
 use Rattle.tall_script.proofs.StatesStand.{prefix_stands, infix_stands, member_stands, index_stands}
 
 -- ---- more datastores
 
-later_cause : (n m : ℕ) (c : Cause) (store : ℕ) → n ≤ m → IsOfDatastore n c store → IsOfDatastore m c store
-later_cause n m (computed kind) store h i = tt
-later_cause n m (reading kind file) store h i = below n m store h i where
-  below : (a b c : ℕ) → a ≤ b → c < a → c < b
-  below a b c h i = omega (arith, h, i)
+lower : (a b c : ℕ) → a ≤ b → c < a → c < b
+lower a b c h i = omega (arith, h, i)
+
+later_cause : (n m : ℕ) (c : Cause) (store : ℕ) (row : Option ℕ) → n ≤ m → IsReadingOf n c store row → IsReadingOf m c store row
+later_cause n m (computed kind) store row h i = tt
+later_cause n m (reading kind file) store row h i = (lower n m store h i.0, i.1)
 
 later_outcome : (n m : ℕ) (x : Outcome) → n ≤ m → OutcomeStands n x → OutcomeStands m x
 later_outcome n m (rows rs) h i = tt
 later_outcome n m (scalar c) h i = tt
-later_outcome n m (fault f) h i = later_cause n m f.cause f.store h i
+later_outcome n m (fault f) h i = later_cause n m f.cause f.store f.row h i
+
+later_tall : (n m : ℕ) (x : Tall) → n ≤ m → TallStands n x → TallStands m x
+later_tall n m x h i = (later_outcome n m x.outcome h i.0, λ store e. lower n m store h (i.1 store e))
 
 later_talls : (n m : ℕ) (t : List (List ℕ × Tall)) → n ≤ m → TallsStand n t → TallsStand m t
 later_talls n m [] h i = tt
-later_talls n m (entry ∷ t) h i = (later_outcome n m entry.1.outcome h i.0, later_talls n m t h i.1)
+later_talls n m (entry ∷ t) h i = (later_tall n m entry.1 h i.0, later_talls n m t h i.1)
 
 later_value : (n m : ℕ) (v : TallValue) → n ≤ m → Stands n v → Stands m v
-later_value n m (datastore place) h i = below n m place h i where
-  below : (a b c : ℕ) → a ≤ b → c < a → c < b
-  below a b c h i = omega (arith, h, i)
+later_value n m (datastore place) h i = lower n m place h i
 later_value n m (tall_table t) h i = later_talls n m t h i
-later_value n m (deferred x) h i = later_outcome n m x.outcome h i
+later_value n m (deferred x) h i = later_tall n m x h i
 later_value n m (in_memory v) h i = tt
 
 later_names : (n m : ℕ) (names : List (List ℕ × TallValue)) → n ≤ m → NamesStand n names → NamesStand m names
@@ -141,11 +148,11 @@ datastores files at args s w = stored files at (options_in args) s w
 
 an_outcome : (n place : ℕ) (d : Store) (r : Result (List (ℕ × Seen)) ReadingFault) → place < n → OutcomeStands n (stored_outcome place d.at r)
 an_outcome n place d (Ok rs) h = tt
-an_outcome n place d (Err f) h = h
+an_outcome n place d (Err f) h = (h, refl)
 
 variables : (n : ℕ) (files : Files) (place : ℕ) (d : Store) (from : ℕ) (vs : List ℕ) → place < n → TallsStand n (stored_variables files place d from vs)
 variables n files place d from [] h = tt
-variables n files place d from (v ∷ vs) h = (an_outcome n place d (stored_column d.store files from) h, variables n files place d (from + 1) vs h)
+variables n files place d from (v ∷ vs) h = ((an_outcome n place d (stored_column d.store files from) h, λ store e. subst (λ p. p < n) (eqb-true place store e) h), variables n files place d (from + 1) vs h)
 
 of_store : (n : ℕ) (files : Files) (place : ℕ) (d : Option Store) → place < n → OnGiven (Stands n) (tall_of_store files place d)
 of_store n files place None h = tt
@@ -171,27 +178,30 @@ a_tall : (files : Files) (args : List (Argument TallValue)) (s : State Tall) →
 unfolding tall_call
 a_tall files args s h = talls files (all_of value_given args) s (all_values (length s.stores) args h)
 
-first : (s : State Tall) (r : Valued (List Memory) (State Tall)) → Gives Later IsWellFormed (λ t vs. Unit {0}) s r → Leaves s (first_of r)
-first s (gives [] t) h = (h.0, h.1, tt)
-first s (gives (v ∷ vs) t) h = (h.0, h.1, tt)
-first s (stops stop t) h = h
-
-all_answered : (s t : State Tall) (r : Result (List Memory) Stop) → Later s t → IsWellFormed t → Gives Later IsWellFormed (λ u vs. Unit {0}) s (answered_all t r)
+all_answered : {W : Type 0} (s t : State Tall) (r : Result W Stop) → Later s t → IsWellFormed t → Gives Later IsWellFormed (λ u vs. Unit {0}) s (answered_all t r)
 all_answered s t (Ok vs) h w = (h, w, tt)
 all_answered s t (Err stop) h w = (h, w)
 
-if_gathered : (b : Bool) (line : ℕ) (vs : List TallValue) (s : State Tall) → IsWellFormed s → Gives Later IsWellFormed (λ u vs. Unit {0}) s (gather_if b line vs s)
-if_gathered true line vs s w = all_answered s (with_openings _ s) _ (same s) w
-if_gathered false line vs s w = (same s, w)
+if_gathered : {W : Type 0} (line : ℕ) (vs : List TallValue) (r : Result W Refusal) (s : State Tall) → IsWellFormed s → Gives Later IsWellFormed (λ u ms. Unit {0}) s (gather_if line vs r s)
+if_gathered line vs (Ok ms) s w = let xs = flat_map talls_in vs in all_answered s (with_openings (gather_openings 0 s.stores (shapes xs)) s) _ (same s) w
+if_gathered line vs (Err e) s w = (same s, w)
 
 all_gathered : (line : ℕ) (vs : List TallValue) (s : State Tall) → IsWellFormed s → Gives Later IsWellFormed (λ u vs. Unit {0}) s (gather_all line vs s)
 unfolding gather_all
-all_gathered line vs s w = if_gathered _ line vs s w
+all_gathered line vs s w = if_gathered line vs (each_of gathered vs) s w
+
+value_gathered : (line : ℕ) (v : TallValue) (s : State Tall) → IsWellFormed s → Gives Later IsWellFormed (λ u m. Unit {0}) s (gather_value line v s)
+unfolding gather_value
+value_gathered line v s w = if_gathered line (v ∷ []) (gathered v) s w
+
+in_memory_then : (s : State Tall) (r : Valued Memory (State Tall)) → Gives Later IsWellFormed (λ u m. Unit {0}) s r → Leaves s (go_on r (λ m t. gives (in_memory m) t))
+in_memory_then s (gives m t) h = (h.0, h.1, tt)
+in_memory_then s (stops stop t) h = h
 
 one_gathered : (at : At) (vs : Option (List TallValue)) (s : State Tall) → IsWellFormed s → Leaves s (gather_one at vs s)
 one_gathered at None s w = (same s, w)
 one_gathered at (Some []) s w = (same s, w)
-one_gathered at (Some (v ∷ [])) s w = first s (gather_all at.line (v ∷ []) s) (all_gathered at.line (v ∷ []) s w)
+one_gathered at (Some (v ∷ [])) s w = in_memory_then s (gather_value at.line v s) (value_gathered at.line v s w)
 one_gathered at (Some (v ∷ u ∷ vs)) s w = (same s, w)
 
 tabled : (r : Result Memory Stop) (s t : State Tall) → Later s t → IsWellFormed t → Leaves s (table_or_stop r t)
@@ -244,11 +254,11 @@ module _ (setting : Setting) where
       (λ s n l o v x h k. infix_stands (length s.stores) (place n l) o v x h k) (λ s v x h. member_stands (length s.stores) v x h)
       (λ s n l v args h k. index_stands (length s.stores) (place n l) v args h k) (λ n l f args s w h. calls_stand setting n l f args s w h) e s w
 
-  some_arguments : (args : Args) (s : State Tall) → IsWellFormed s → Gives Later IsWellFormed (λ t given. ArgumentsAre (StandsIn t) given) s (arguments (script_language setting) args false s)
-  some_arguments args s w = arguments_are (script_language setting) Later later_kept IsWellFormed StandsIn (λ s t v h i. later_value (length s.stores) (length t.stores) v h i) (λ s m l. tt)
+  some_arguments : (args : Args) (takes : Bool) (s : State Tall) → IsWellFormed s → Gives Later IsWellFormed (λ t given. ArgumentsAre (StandsIn t) given) s (arguments (script_language setting) args takes s)
+  some_arguments args takes s w = arguments_are (script_language setting) Later later_kept IsWellFormed StandsIn (λ s t v h i. later_value (length s.stores) (length t.stores) v h i) (λ s m l. tt)
       (λ s x w. of_name (length s.stores) s.names x w) (λ s n l o v h. prefix_stands (length s.stores) (place n l) o v h)
       (λ s n l o v x h k. infix_stands (length s.stores) (place n l) o v x h k) (λ s v x h. member_stands (length s.stores) v x h)
-      (λ s n l v args h k. index_stands (length s.stores) (place n l) v args h k) (λ n l f args s w h. calls_stand setting n l f args s w h) args false s w
+      (λ s n l v args h k. index_stands (length s.stores) (place n l) v args h k) (λ n l f args s w h. calls_stand setting n l f args s w h) args takes s w
 
   -- ---- statements
 
@@ -297,8 +307,8 @@ module _ (setting : Setting) where
   a_body : (line : ℕ) (shown : Bool) (b : Body) (s : State Tall) → IsWellFormed s → IsWellFormed (done_state (body setting line shown b s))
   a_body line shown (assigned name e) s w =
       after StandsIn s (script_value setting e s) _ (an_expression e s w) (λ v t u i. put (length t.stores) name v t.names i u)
-  a_body line shown (gathered names args) s w =
-      after (λ t given. ArgumentsAre (StandsIn t) given) s (arguments (script_language setting) args false s) _ (some_arguments args s w) (λ given t u i. gathered_into line shown names _ t u)
+  a_body line shown (trees.gathered names args) s w =
+      after (λ t given. ArgumentsAre (StandsIn t) given) s (arguments (script_language setting) args false s) _ (some_arguments args false s w) (λ given t u i. gathered_into line shown names _ t u)
   a_body line shown (property name p e) s w =
       after StandsIn s (script_value setting e s) _ (an_expression e s w) (λ v t u i. a_store line shown name _ t u)
   a_body line shown (bare e) s w = after StandsIn s (script_value setting e s) _ (an_expression e s w) (λ v t u i. by_itself shown e v t u i)
@@ -313,3 +323,64 @@ module _ (setting : Setting) where
   run_stands [] s w = w
   run_stands (entry ∷ entries) s w =
       then_run (statement setting entry s) _ (a_body entry.line entry.shown entry.form s w) (λ t u. run_stands entries t u)
+
+-- ---- values inside a statement
+
+given_standing : (s : State Tall) (r : Valued TallValue (State Tall)) → Leaves s r → GivesStanding r
+given_standing s (gives v t) h = (h.1, h.2)
+given_standing s (stops stop t) h = h.1
+
+pub expression_stands : (setting : Setting) (e : Tree) (s : State Tall) → IsWellFormed s → GivesStanding (script_value setting e s)
+expression_stands setting e s w = given_standing s (script_value setting e s) (an_expression setting e s w)
+
+as_arguments : (n : ℕ) (args : List (Argument TallValue)) → ArgumentsAre (Stands n) args → ArgumentsStand n args
+as_arguments n [] h = tt
+as_arguments n (argument.given v ∷ args) h = (h.0, as_arguments n args h.1)
+as_arguments n (argument.colon ∷ args) h = as_arguments n args h.1
+as_arguments n (argument.function name ∷ args) h = as_arguments n args h.1
+
+given_all_standing : (s : State Tall) (r : Valued (List (Argument TallValue)) (State Tall)) → Gives Later IsWellFormed (λ t given. ArgumentsAre (StandsIn t) given) s r → GiveStanding r
+given_all_standing s (gives args t) h = (h.1, as_arguments (length t.stores) args h.2)
+given_all_standing s (stops stop t) h = h.1
+
+pub arguments_stand : (setting : Setting) (args : Args) (takes : Bool) (s : State Tall) → IsWellFormed s → GiveStanding (arguments (script_language setting) args takes s)
+arguments_stand setting args takes s w = given_all_standing s (arguments (script_language setting) args takes s) (some_arguments setting args takes s w)
+
+-- ---- what is there
+
+pub store_there : (stores : List Store) (place : ℕ) → place < length stores → (d : Store) × (slice_get stores place ≡ Some d)
+store_there [] place h = absurd (omega (arith, h))
+store_there (d ∷ stores) zero h = (d, refl)
+store_there (d ∷ stores) (suc place) h = (let w = store_there stores place (omega (arith, h)) in (w.0, w.1))
+
+-- ---- what a gather gives
+
+no_fault : (f g : Option Fault) → earlier f g ≡ None → (f ≡ None) × (g ≡ None)
+no_fault None None h = (refl, refl)
+no_fault None (Some g) h = absurd (none-some g (sym h))
+no_fault (Some f) None h = absurd (none-some f (sym h))
+no_fault (Some f) (Some g) h = absurd (none-some (if precedes g f then g else f) (sym h))
+
+none_least : (xs : List Tall) → least_fault (map fault_of (outcomes xs)) ≡ None → HaveNoFault xs
+none_least [] h = All-nil HasNoFault
+none_least (x ∷ xs) h = (let w = no_fault (fault_of x.outcome) (least_fault (map fault_of (outcomes xs))) h in All-cons HasNoFault x xs w.0 (none_least xs w.1))
+
+abbrev given_by : {W : Type 0} → W → State Tall → Valued W (State Tall)
+given_by w s = gives w s
+
+known_gives : {W : Type 0} (t u : State Tall) (stores : List Store) (f : Option Fault) (w x : W) → answered_all t (values_or_fault stores f w) ≡ given_by x u → f ≡ None
+known_gives t u stores None w x h = refl
+known_gives t u stores (Some f) w x h = absurd cc
+
+gives_without_fault : {W : Type 0} (line : ℕ) (vs : List TallValue) (r : Result W Refusal) (s u : State Tall) (x : W) → gather_if line vs r s ≡ given_by x u → HaveNoFault (flat_map talls_in vs)
+gives_without_fault line vs (Ok w) s u x h =
+    let xs = flat_map talls_in vs in none_least xs (known_gives (with_openings (gather_openings 0 s.stores (shapes xs)) s) u s.stores (least_fault (map fault_of (outcomes xs))) w x h)
+gives_without_fault line vs (Err e) s u x h = absurd cc
+
+pub gathered_without_fault : (line : ℕ) (vs : List TallValue) (s u : State Tall) (ms : List Memory) → gather_all line vs s ≡ given_by ms u → HaveNoFault (flat_map talls_in vs)
+unfolding gather_all
+gathered_without_fault line vs s u ms h = gives_without_fault line vs (each_of gathered vs) s u ms h
+
+pub value_without_fault : (line : ℕ) (v : TallValue) (s u : State Tall) (m : Memory) → gather_value line v s ≡ given_by m u → HaveNoFault (flat_map talls_in (v ∷ []))
+unfolding gather_value
+value_without_fault line v s u m h = gives_without_fault line (v ∷ []) (gathered v) s u m h

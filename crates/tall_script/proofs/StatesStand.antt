@@ -24,12 +24,12 @@ use Rattle.tall_local.specs.Values.{datastore, tall_table, deferred, in_memory, 
 use Rattle.tall_local.specs.MemoryLaws.{OnGiven}
 use Rattle.tall_local.proofs.ValuesKept.{ArgumentsAre}
 use Rattle.tall_script.specs.ScriptValues.{TallValue, computed, tall_answer, deferring, beside_scalar, beside_column, unary_value, binary_value, prefix_value, infix_value, is_scalar_value, is_tall_scalar, tall_variable, member_value, over_columns, table_answer, tall_index_of_memory, memory_index_of_tall, tall_column_index, tall_table_index, index_value_of, index_value}
-use Rattle.tall_script.specs.WellFormed.{OutcomeStands, TallsStand, Stands}
+use Rattle.tall_script.specs.WellFormed.{TallStands, TallsStand, Stands}
 use Rattle.tall_script.proofs.Standing.{AllStand, made_stands}
 
 module _ (n : ℕ) where
   abbrev pub IsTall : Tall → Type 0
-  IsTall x = OutcomeStands n x.outcome
+  IsTall x = TallStands n x
 
   abbrev pub Answers : Result TallValue Refusal → Type 0
   Answers r = OnGiven (Stands n) r

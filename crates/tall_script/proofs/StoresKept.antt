@@ -5,18 +5,19 @@ use Rattle.std.specs.List.{flat_map}
 use Rattle.std.specs.Prelude.{if◌then◌else◌, ◌==◌, length, Option, None, Some, Result, Ok, Err, codes}
 use Rattle.tall_outside.specs.Shelf.{Files}
 use Rattle.tall_semantics.specs.Faults.{At}
-use Rattle.tall_semantics.specs.Talls.{Tall}
+use Rattle.tall_semantics.specs.Talls.{Tall, shapes}
+use Rattle.tall_local.specs.Lists.{each_of}
 use Rattle.tall_store.specs.declared.faults.StoreFault.{StoreFault}
 use Rattle.tall_store.specs.Opening.{opening}
 use Rattle.tall_store.specs.Options.{SeenOptions}
 use Rattle.tall_store.specs.Stores.{SeenStore}
-use Rattle.tall_grammar.specs.Trees.{Args, Body, assigned, gathered, property, bare, SeenStatement, SeenFunction, Tree, tree}
+use Rattle.tall_grammar.specs.Trees.{Args, Body, assigned, property, bare, SeenStatement, SeenFunction, Tree, tree}
 use Rattle.tall_grammar.specs.Trees as trees
 use Rattle.tall_local.specs.Arguments.{Argument}
 use Rattle.tall_script.specs.Datastores.{datastore_call, options_in, first_opening, made_store, store_with}
-use Rattle.tall_local.specs.Expressions.{Valued, gives, stops, answered, arguments}
+use Rattle.tall_local.specs.Expressions.{Valued, gives, stops, go_on, answered, arguments}
 use Rattle.tall_local.specs.declared.functions.ScriptFunction.TheVariants.{OfValues, TabularTextDatastore, Tall as TallOf, Gather, MapReduce, ReadAll, Elsewhere}
-use Rattle.tall_script.specs.Gathers.{answered_all, first_of, gather_all, gather_if, gather_known, gather_one, talls_in}
+use Rattle.tall_script.specs.Gathers.{answered_all, gathered, gather_all, gather_if, gather_one, gather_openings, gather_value, talls_in}
 use Rattle.tall_local.specs.Memory.{Memory}
 use Rattle.tall_local.specs.Refusals.{Refusal, Stop}
 use Rattle.tall_local.specs.StateLaws.{state_after, IsKept, CallsKeep}
@@ -71,30 +72,30 @@ datastores files at args s = stored files at (options_in args) s
 
 -- ---- gathers
 
-all_answered : (s : State Tall) (r : Result (List Memory) Stop) → Follows s (state_after (answered_all s r))
-all_answered s (Ok vs) = same_state s
-all_answered s (Err stop) = same_state s
+all_answered : {W : Type 0} (s t : State Tall) (r : Result W Stop) → Follows s t → Follows s (state_after (answered_all t r))
+all_answered s t (Ok w) h = h
+all_answered s t (Err stop) h = h
 
-known : (vs : List TallValue) (xs : List Tall) (s : State Tall) → Follows s (state_after (gather_known vs xs s))
-known vs xs s = let t = with_openings _ s in follows_kept.both s t _ (more_openings _ s) (all_answered t _)
-
-tested : (b : Bool) (line : ℕ) (vs : List TallValue) (s : State Tall) → Follows s (state_after (gather_if b line vs s))
-tested true line vs s = known vs (flat_map talls_in vs) s
-tested false line vs s = same_state s
+if_gathered : {W : Type 0} (line : ℕ) (vs : List TallValue) (r : Result W Refusal) (s : State Tall) → Follows s (state_after (gather_if line vs r s))
+if_gathered line vs (Err e) s = same_state s
+if_gathered line vs (Ok w) s = let xs = flat_map talls_in vs in all_answered s (with_openings (gather_openings 0 s.stores (shapes xs)) s) _ (more_openings (gather_openings 0 s.stores (shapes xs)) s)
 
 pub gathers : (line : ℕ) (vs : List TallValue) (s : State Tall) → Follows s (state_after (gather_all line vs s))
 unfolding gather_all
-gathers line vs s = tested _ line vs s
+gathers line vs s = if_gathered line vs (each_of gathered vs) s
 
-first : (s : State Tall) (v : Valued (List Memory) (State Tall)) → Follows s (state_after v) → Follows s (state_after (first_of v))
-first s (gives [] t) h = h
-first s (gives (v ∷ vs) t) h = h
-first s (stops stop t) h = h
+one_value : (line : ℕ) (v : TallValue) (s : State Tall) → Follows s (state_after (gather_value line v s))
+unfolding gather_value
+one_value line v s = if_gathered line (v ∷ []) (gathered v) s
+
+in_memory_then : (s : State Tall) (r : Valued Memory (State Tall)) → Follows s (state_after r) → Follows s (state_after {V = TallValue} (go_on r (λ m t. gives (in_memory m) t)))
+in_memory_then s (gives m t) h = h
+in_memory_then s (stops stop t) h = h
 
 one_gather : (at : At) (vs : Option (List TallValue)) (s : State Tall) → Follows s (state_after (gather_one at vs s))
 one_gather at None s = same_state s
 one_gather at (Some []) s = same_state s
-one_gather at (Some (v ∷ [])) s = first s (gather_all at.line (v ∷ []) s) (gathers at.line (v ∷ []) s)
+one_gather at (Some (v ∷ [])) s = in_memory_then s (gather_value at.line v s) (one_value at.line v s)
 one_gather at (Some (v ∷ w ∷ vs)) s = same_state s
 
 -- ---- mapreduce
@@ -171,7 +172,7 @@ by_itself shown (tree n l (trees.call e args)) v s = named (codes "ans") v s
 body_follows : (setting : Setting) (line : ℕ) (shown : Bool) (b : Body) (s : State Tall) → Follows s (done_state (body setting line shown b s))
 body_follows setting line shown (assigned name e) s =
     after_value s (script_value setting e s) _ (expression_follows setting e s) (λ v t. named name v t)
-body_follows setting line shown (gathered names args) s =
+body_follows setting line shown (trees.gathered names args) s =
     after_value s (arguments (script_language setting) args false s) _
     (arguments_kept (script_language setting) Follows follows_kept (calls_follow setting) args false s) (λ given t. gathered_into line shown names _ t)
 body_follows setting line shown (property name p e) s =

@@ -1,13 +1,18 @@
 //! Laws of the definitions, each the contract of a function without a body.
-ghost use Rattle.std.specs.Prelude.{◌≡◌, ◌≤◌, ◌++◌, ℕ, Bool, true, List, map, Some, Result};
+ghost use Rattle.std.specs.Prelude.{◌≡◌, ◌≤◌, ◌++◌, ℕ, Bool, true, List, [], ◌∷◌, length, map, slice_get, Some, Result};
+ghost use Rattle.std.specs.List.{flat_map};
 ghost use Rattle.tall_column.specs.Columns.{SeenColumn};
 ghost use Rattle.tall_cut.specs.declared.cutter.ReadSize.{ReadSize};
 ghost use Rattle.tall_grammar.specs.Grammar.{IsExpr, IsScript};
 ghost use Rattle.tall_grammar.specs.Lexemes.{Lexeme};
-ghost use Rattle.tall_grammar.specs.Trees.{Body, SeenFunction, SeenScript, SeenStatement, Tree};
+ghost use Rattle.tall_grammar.specs.Trees.{Args, Body, SeenFunction, SeenScript, SeenStatement, Tree};
+ghost use Rattle.tall_local.specs.Expressions.{arguments, gives};
+ghost use Rattle.tall_local.specs.Memory.{Memory};
 ghost use Rattle.tall_local.specs.Pairs.{Pair};
+ghost use Rattle.tall_local.specs.Values.{datastore};
 ghost use Rattle.tall_outside.specs.Shelf.{Files};
 ghost use Rattle.tall_script.specs.AnswerLaws.{HasOneAllowance, HasOneAnswer};
+ghost use Rattle.tall_script.specs.Gathers.{gather_all, gather_value, talls_in};
 ghost use Rattle.tall_script.specs.MapReduce.{mapped, reduced};
 ghost use Rattle.tall_script.specs.MapReduceLaws.{joined_results, mapped_block, reduced_key};
 ghost use Rattle.tall_script.specs.NumberLaws.{AreInTurn, Ascends, numbers_of, numbers_of_script};
@@ -15,13 +20,14 @@ ghost use Rattle.tall_script.specs.Numbering.{numbered, numbered_program};
 ghost use Rattle.tall_script.specs.OpeningLaws.{opens_none};
 ghost use Rattle.tall_script.specs.RunLaws.{BeginsWith, IsRunOf, continued};
 ghost use Rattle.tall_script.specs.Runs.{run_from};
-ghost use Rattle.tall_script.specs.ScriptLanguage.{Setting};
+ghost use Rattle.tall_script.specs.ScriptLanguage.{Setting, script_language, script_value};
+ghost use Rattle.tall_script.specs.ScriptValues.{TallValue};
 ghost use Rattle.tall_script.specs.SizeLaws.{resized};
 ghost use Rattle.tall_script.specs.Statements.{body};
 ghost use Rattle.tall_script.specs.States.{State, Store, empty_state, times_allowed};
 ghost use Rattle.tall_script.specs.StatesFollow.{Follows, done_state};
 ghost use Rattle.tall_script.specs.TallTables.{tall_of_store};
-ghost use Rattle.tall_script.specs.WellFormed.{IsWellFormed};
+ghost use Rattle.tall_script.specs.WellFormed.{GivesStanding, GiveStanding, HaveNoFault, IsWellFormed, Stands};
 ghost use Rattle.tall_semantics.specs.Talls.{Tall};
 ghost use Rattle.tall_store.specs.declared.faults.ReadingFault.{ReadingFault};
 ghost use Rattle.tall_value.specs.Cells.{Seen};
@@ -95,9 +101,19 @@ pub fn mapreduce_is_made_of_calls_on_empty_stores()
     ensures reduce_phase { (f : SeenFunction) (pairs : List Pair) (keys : List Seen) (out : List Pair) → reduced f pairs keys out ≡ joined_results (map (reduced_key f pairs) keys) out }
 {}
 
-/// What is named in a script's state is there: the place of a datastore is that of one that was made, and the reading faults of
-/// tall values are those of such datastores. A run keeps it so, and it is so at its start.
+/// What is named in a script's state is there: the place of a datastore is that of one that was made, tall values read such
+/// datastores alone, and their reading faults are those of such datastores, each at a row. A run keeps it so, and it is so at its
+/// start; and the values inside a statement are such values too, which operators, indexes, gathers and mapreduce are given.
 pub fn what_is_named_is_there()
     ensures start { IsWellFormed empty_state }
     ensures runs { (setting : Setting) (entries : List SeenStatement) (s : State Tall) → IsWellFormed s → IsWellFormed (run_from setting entries s).state }
+    ensures expressions { (setting : Setting) (e : Tree) (s : State Tall) → IsWellFormed s → GivesStanding (script_value setting e s) }
+    ensures arguments { (setting : Setting) (args : Args) (takes : Bool) (s : State Tall) → IsWellFormed s → GiveStanding (arguments (script_language setting) args takes s) }
+    ensures stores { (s : State Tall) (place : ℕ) → Stands (length s.stores) (datastore place) → (d : Store) × (slice_get s.stores place ≡ Some d) }
+{}
+
+/// Where a gather gives values, no tall value among its arguments has a fault: so the cells of a fault are never taken for a value's.
+pub fn a_gather_gives_values_without_faults()
+    ensures one { (line : ℕ) (v : TallValue) (s t : State Tall) (m : Memory) → gather_value line v s ≡ gives m t → HaveNoFault (flat_map talls_in (v ∷ [])) }
+    ensures all { (line : ℕ) (vs : List TallValue) (s t : State Tall) (ms : List Memory) → gather_all line vs s ≡ gives ms t → HaveNoFault (flat_map talls_in vs) }
 {}

@@ -21,7 +21,7 @@ use Rattle.tall_script.specs.Datastores.{datastore_call, changed}
 use Rattle.tall_script.specs.TallTables.{tall_call}
 use Rattle.tall_local.specs.FaultLines.{refusal_text}
 use Rattle.tall_local.specs.Functions.{script_function_named, local_function_named}
-use Rattle.tall_script.specs.Gathers.{gather_all}
+use Rattle.tall_script.specs.Gathers.{gather_all, gather_value}
 use Rattle.tall_local.specs.MemoryFunctions.{memory_application}
 use Rattle.tall_local.specs.MemoryIndexing.{memory_index, memory_member}
 use Rattle.tall_local.specs.MemoryOperators.{memory_unary, memory_binary, memory_prefix, memory_infix}
@@ -44,7 +44,7 @@ unfoldable pub whole_runs : ⊤
 unfolding csv_on_literals is_utf8 chars encode digits least_free blocks_up_to tall
     memory_unary memory_binary memory_prefix memory_infix memory_index memory_member memory_application script_function_named local_function_named constant_named application_of
     prefix_value infix_value member_value index_value application_value held_infix held_index held_function held_call options_given datastore_call
-    tall_call changed gather_all map_reduced script_call value_text memory_text refusal_text
+    tall_call changed gather_all gather_value map_reduced script_call value_text memory_text refusal_text
 whole_runs = tt
 
 -- the file a.csv
