@@ -13,3 +13,4 @@ mod ApplicationOperands
 mod LocalsHeld
 mod StepsHeld
 mod TurnsSuffice
+pub mod ListedCalls

@@ -17,6 +17,7 @@ pub mod Calls
 pub mod Printing
 pub mod FaultLines
 pub mod StateLaws
+pub mod CallsMade
 pub mod CallLaws
 pub mod FunctionFaults
 pub mod StoreLaws

@@ -10,3 +10,4 @@ mod Standing
 mod StatesStand
 mod CallsStand
 mod RunsStand
+mod QuietCalls

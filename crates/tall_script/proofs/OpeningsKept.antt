@@ -27,7 +27,7 @@ use Rattle.tall_script.proofs.StoresKept.{run_follows}
 
 -- ---- counts
 
-both_allowed : (file : List ℕ) (os more : List Openings) → times_allowed file (os ++ more) ≡ times_allowed file os + times_allowed file more
+pub both_allowed : (file : List ℕ) (os more : List Openings) → times_allowed file (os ++ more) ≡ times_allowed file os + times_allowed file more
 both_allowed file [] more = none_more (times_allowed file more) where
   none_more : (n : ℕ) → n ≡ 0 + n
   none_more n = omega arith

@@ -32,8 +32,8 @@ pub record Setting : Type 0 where
   pub files : Files
   pub functions : List SeenFunction
 
-abbrev pub routine_named : List SeenFunction → List ℕ → Option SeenFunction
-routine_named fs name = find (λ (f : SeenFunction). bytes_eq f.name name) fs
+abbrev pub function_in : List SeenFunction → List ℕ → Option SeenFunction
+function_in fs name = find (λ (f : SeenFunction). bytes_eq f.name name) fs
 
 -- ---- names
 
@@ -43,7 +43,7 @@ read_name name None = elim (constant_named name) [ Some c ↦ Ok (in_memory (sca
 
 -- a function that is there is still no value
 abbrev pub handle_refusal : List SeenFunction → List ℕ → Refusal
-handle_refusal fs name = if is_some (routine_named fs name) then bad_argument else undefined name
+handle_refusal fs name = if is_some (function_in fs name) then bad_argument else undefined name
 
 -- ---- calls
 
@@ -76,7 +76,7 @@ reduced_arguments args = Err bad_argument
 -- mapreduce(ds, @m, @r)
 abbrev pub mapreduce_with : Setting → At → Result (ℕ × List ℕ × List ℕ) Refusal → State Tall → Valued TallValue (State Tall)
 mapreduce_with setting at (Ok a) s =
-    reduce_store setting.files at (slice_get s.stores a.0) (routine_named setting.functions a.1) (routine_named setting.functions a.2) s
+    reduce_store setting.files at (slice_get s.stores a.0) (function_in setting.functions a.1) (function_in setting.functions a.2) s
 mapreduce_with setting at (Err refusal) s = stops (stop_at at.line refusal) s
 
 unfoldable pub script_call : Setting → At → ScriptFunction → List (Argument TallValue) → State Tall → Valued TallValue (State Tall)
@@ -104,7 +104,7 @@ script_language setting = record {
   handle = handle_refusal setting.functions;
   function_named = script_function_named;
   takes_handles = is_mapreduce;
-  function_is_there = λ name. is_some (routine_named setting.functions name);
+  function_is_there = λ name. is_some (function_in setting.functions name);
   prefix_value = λ n l op v. prefix_value (place n l) op v;
   infix_value = λ n l op v w. infix_value (place n l) op v w;
   member = member_value;

@@ -6,7 +6,8 @@ ghost use Rattle.tall_cut.specs.declared.cutter.ReadSize.{ReadSize};
 ghost use Rattle.tall_grammar.specs.Grammar.{IsExpr, IsScript};
 ghost use Rattle.tall_grammar.specs.Lexemes.{Lexeme};
 ghost use Rattle.tall_grammar.specs.Trees.{Args, Body, SeenFunction, SeenScript, SeenStatement, Tree};
-ghost use Rattle.tall_local.specs.Expressions.{arguments, gives};
+ghost use Rattle.tall_local.specs.CallsMade.{listing, unlisted};
+ghost use Rattle.tall_local.specs.Expressions.{arguments, gives, value};
 ghost use Rattle.tall_local.specs.Memory.{Memory};
 ghost use Rattle.tall_local.specs.Pairs.{Pair};
 ghost use Rattle.tall_local.specs.Values.{datastore};
@@ -17,7 +18,7 @@ ghost use Rattle.tall_script.specs.MapReduce.{mapped, reduced};
 ghost use Rattle.tall_script.specs.MapReduceLaws.{joined_results, mapped_block, reduced_key};
 ghost use Rattle.tall_script.specs.NumberLaws.{AreInTurn, Ascends, numbers_of, numbers_of_script};
 ghost use Rattle.tall_script.specs.Numbering.{numbered, numbered_program};
-ghost use Rattle.tall_script.specs.OpeningLaws.{opens_none};
+ghost use Rattle.tall_script.specs.OpeningLaws.{IsQuiet, opens_none};
 ghost use Rattle.tall_script.specs.RunLaws.{BeginsWith, IsRunOf, continued};
 ghost use Rattle.tall_script.specs.Runs.{run_from};
 ghost use Rattle.tall_script.specs.ScriptLanguage.{Setting, script_language, script_value};
@@ -86,6 +87,14 @@ pub fn openings_only_grow()
 /// A statement that makes no datastore by a call, gathers nothing and runs no mapreduce leaves what was opened.
 pub fn other_statements_open_nothing()
     ensures { (setting : Setting) (line : ℕ) (shown : Bool) (b : Body) (s : State Tall) → opens_none b ≡ true → (done_state (body setting line shown b s)).opened ≡ s.opened }
+{}
+
+/// A statement that makes no datastore by a call, gathers no tall value and runs no mapreduce leaves how often each file may be
+/// opened: by the calls that it made, whatever was written. To list the calls of an expression changes nothing of it.
+pub fn calls_that_open_nothing_leave_what_was_opened()
+    ensures statements { (setting : Setting) (line : ℕ) (shown : Bool) (b : Body) (s : State Tall) (file : List ℕ) → IsQuiet setting b s
+        → times_allowed file (done_state (body setting line shown b s)).opened ≡ times_allowed file s.opened }
+    ensures listed { (setting : Setting) (e : Tree) (s : State Tall) → unlisted (value (listing (script_language setting)) e (s, [])) ≡ script_value setting e s }
 {}
 
 /// Another ReadSize leaves the tall table of a datastore as it was, with its values and its faults.
