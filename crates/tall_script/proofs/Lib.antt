@@ -11,3 +11,5 @@ mod StatesStand
 mod CallsStand
 mod RunsStand
 mod QuietCalls
+mod SizesApart
+mod SizedOpenings

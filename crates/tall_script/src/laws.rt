@@ -23,13 +23,15 @@ ghost use Rattle.tall_script.specs.RunLaws.{BeginsWith, IsRunOf, continued};
 ghost use Rattle.tall_script.specs.Runs.{run_from};
 ghost use Rattle.tall_script.specs.ScriptLanguage.{Setting, script_language, script_value};
 ghost use Rattle.tall_script.specs.ScriptValues.{TallValue};
-ghost use Rattle.tall_script.specs.SizeLaws.{resized};
+ghost use Rattle.tall_script.specs.SizeLaws.{opened_in, reduce_none, resized, sizeless_run, sizeless_state, with_size};
 ghost use Rattle.tall_script.specs.Statements.{body};
 ghost use Rattle.tall_script.specs.States.{State, Store, empty_state, times_allowed};
 ghost use Rattle.tall_script.specs.StatesFollow.{Follows, done_state};
 ghost use Rattle.tall_script.specs.TallTables.{tall_of_store};
 ghost use Rattle.tall_script.specs.WellFormed.{GivesStanding, GiveStanding, HaveNoFault, IsWellFormed, Stands};
 ghost use Rattle.tall_semantics.specs.Talls.{Tall};
+ghost use Rattle.tall_store.specs.Opening.{opening};
+ghost use Rattle.tall_store.specs.Options.{SeenOptions, is_size};
 ghost use Rattle.tall_store.specs.declared.faults.ReadingFault.{ReadingFault};
 ghost use Rattle.tall_value.specs.Cells.{Seen};
 
@@ -97,9 +99,14 @@ pub fn calls_that_open_nothing_leave_what_was_opened()
     ensures listed { (setting : Setting) (e : Tree) (s : State Tall) → unlisted (value (listing (script_language setting)) e (s, [])) ≡ script_value setting e s }
 {}
 
-/// Another ReadSize leaves the tall table of a datastore as it was, with its values and its faults.
-pub fn read_size_leaves_tables()
-    ensures { (size : ReadSize) (d : Store) (files : Files) (place : ℕ) → tall_of_store files place (Some (resized size d)) ≡ tall_of_store files place (Some d) }
+/// ReadSize changes mapreduce alone. Options with another ReadSize open to the same datastore, in blocks of that size; it leaves
+/// a datastore's tall table, with its values and faults; and statements that do not call mapreduce show and end as they do, also
+/// in their gathers, from states that differ in ReadSizes alone.
+pub fn read_size_changes_mapreduce_alone()
+    ensures openings { (size : ReadSize) (o : SeenOptions) (files : Files) → is_size size ≡ true → is_size o.size ≡ true → opening files (with_size size o) ≡ opened_in size (opening files o) }
+    ensures tables { (size : ReadSize) (d : Store) (files : Files) (place : ℕ) → tall_of_store files place (Some (resized size d)) ≡ tall_of_store files place (Some d) }
+    ensures runs { (setting : Setting) (entries : List SeenStatement) (s t : State Tall) → reduce_none entries ≡ true → sizeless_state s ≡ sizeless_state t
+        → sizeless_run (run_from setting entries s) ≡ sizeless_run (run_from setting entries t) }
 {}
 
 /// Both phases of mapreduce are calls on empty stores, appended in the order of blocks and of keys. So the calls need nothing of
