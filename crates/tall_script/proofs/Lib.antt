@@ -13,3 +13,4 @@ mod RunsStand
 mod QuietCalls
 mod SizesApart
 mod SizedOpenings
+mod LaterNumbers

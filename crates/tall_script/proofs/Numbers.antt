@@ -9,7 +9,7 @@ use Rattle.tall_grammar.specs.Lexemes.{Lexeme}
 use Rattle.tall_grammar.specs.Refusals.{line_of}
 use Rattle.tall_grammar.specs.Trees.{Tree, tree, Trees, no_trees, and_tree, Args, no_args, value_arg, colon_arg, Step, assign_step, add_step, if_step, while_step, for_step, Steps, no_steps, and_step, Arms, no_arms, and_arm, Body, assigned, gathered, property, bare, SeenStatement, SeenFunction, SeenScript}
 use Rattle.tall_grammar.specs.Trees as trees
-use Rattle.tall_script.specs.Numbering.{after_parts, numbered, numbered_trees, numbered_args, numbered_body, numbered_step, numbered_steps, numbered_arms, numbered_entries, numbered_routines, numbered_program}
+use Rattle.tall_script.specs.Numbering.{after_parts, numbered, numbered_trees, numbered_args, numbered_body, numbered_step, numbered_steps, numbered_arms, numbered_statements, numbered_functions, numbered_script}
 
 -- ---- wholes from their parts
 
@@ -122,15 +122,15 @@ body_numbered _ _ _ _ _ (g.gather_body l m n p q r u v w s ts us ss args names h
 body_numbered _ _ _ _ _ (g.property_body l m n p q r s t ts e h) = ap (λ (p : Tree × ℕ). (property s t p.0, p.1)) (expr_numbered l m ts e n h)
 body_numbered _ _ _ _ _ (g.bare_body l m n ts e h first) = ap (λ (p : Tree × ℕ). (bare p.0, p.1)) (expr_numbered l m ts e n h)
 
-one_entry : (l : ℕ) (shown : Bool) (b : Body) (bs : List SeenStatement) (m k n : ℕ) → numbered_body b l m ≡ (b, k) → numbered_entries bs k ≡ (bs, n)
-    → numbered_entries (record { line = l; shown = shown; form = b } ∷ bs) m ≡ (record { line = l; shown = shown; form = b } ∷ bs, n)
+one_entry : (l : ℕ) (shown : Bool) (b : Body) (bs : List SeenStatement) (m k n : ℕ) → numbered_body b l m ≡ (b, k) → numbered_statements bs k ≡ (bs, n)
+    → numbered_statements (record { line = l; shown = shown; form = b } ∷ bs) m ≡ (record { line = l; shown = shown; form = b } ∷ bs, n)
 one_entry l shown b bs m k n h i =
-    ap (λ (p : Body × ℕ). let q = numbered_entries bs p.1 in (record { line = l; shown = shown; form = p.0 } ∷ q.0, q.1)) h
+    ap (λ (p : Body × ℕ). let q = numbered_statements bs p.1 in (record { line = l; shown = shown; form = p.0 } ∷ q.0, q.1)) h
     ∙ ap (λ (q : List SeenStatement × ℕ). (record { line = l; shown = shown; form = b } ∷ q.0, q.1)) i
 
 -- statements, and then more
-entries_numbered : (m : ℕ) (ts : List Lexeme) (bs more : List SeenStatement) (k n : ℕ) → AreStatements m ts bs k → numbered_entries more k ≡ (more, n)
-    → numbered_entries (bs ++ more) m ≡ (bs ++ more, n)
+entries_numbered : (m : ℕ) (ts : List Lexeme) (bs more : List SeenStatement) (k n : ℕ) → AreStatements m ts bs k → numbered_statements more k ≡ (more, n)
+    → numbered_statements (bs ++ more) m ≡ (bs ++ more, n)
 entries_numbered _ _ _ more _ n (g.no_statements m) rest = rest
 entries_numbered _ _ _ more _ o (g.next_statement l m k n ts ps us p b bs h sep seps i) rest =
     one_entry l _ b (bs ++ more) m k o (body_numbered l m ts b k h) (entries_numbered k us bs more n o i rest)
@@ -207,24 +207,24 @@ mutual
       let c = arms_numbered k us arms rest n i in
       (c.0, one_arm e b arms l m a.0 k c.0 a.1 a.2 c.1, c.2)
 
-routines_numbered : (m : ℕ) (ts : List Lexeme) (fs : List SeenFunction) (n : ℕ) → AreFunctions m ts fs n → numbered_routines fs m ≡ (fs, n)
+routines_numbered : (m : ℕ) (ts : List Lexeme) (fs : List SeenFunction) (n : ℕ) → AreFunctions m ts fs n → numbered_functions fs m ≡ (fs, n)
 routines_numbered _ _ _ _ (g.no_functions m) = refl
 routines_numbered _ _ _ _ (g.next_function l m k n p q r u v w s t1 t2 t3 sep a b c ps ts qs us body fs pa pb pc is seps h more i) =
-    ap (λ (p : Steps × ℕ). let q = numbered_routines fs p.1 in (record { name = s; line = l; params = a ∷ b ∷ c ∷ []; body = p.0 } ∷ q.0, q.1)) (steps_numbered m ts body k h)
+    ap (λ (p : Steps × ℕ). let q = numbered_functions fs p.1 in (record { name = s; line = l; params = a ∷ b ∷ c ∷ []; body = p.0 } ∷ q.0, q.1)) (steps_numbered m ts body k h)
     ∙ ap (λ (q : List SeenFunction × ℕ). (record { name = s; line = l; params = a ∷ b ∷ c ∷ []; body = body } ∷ q.0, q.1)) (routines_numbered k us fs n i)
 
 -- ---- scripts
 
-program_numbered : (bs : List SeenStatement) (fs : List SeenFunction) (k n : ℕ) → numbered_entries bs 1 ≡ (bs, k) → numbered_routines fs k ≡ (fs, n)
-    → numbered_program (record { statements = bs; functions = fs }) ≡ record { statements = bs; functions = fs }
+program_numbered : (bs : List SeenStatement) (fs : List SeenFunction) (k n : ℕ) → numbered_statements bs 1 ≡ (bs, k) → numbered_functions fs k ≡ (fs, n)
+    → numbered_script (record { statements = bs; functions = fs }) ≡ record { statements = bs; functions = fs }
 program_numbered bs fs k n h i =
-    ap (λ (p : List SeenStatement × ℕ). let q = numbered_routines fs p.1 in let s : SeenScript = record { statements = p.0; functions = q.0 } in s) h
+    ap (λ (p : List SeenStatement × ℕ). let q = numbered_functions fs p.1 in let s : SeenScript = record { statements = p.0; functions = q.0 } in s) h
     ∙ ap (λ (q : List SeenFunction × ℕ). let s : SeenScript = record { statements = bs; functions = q.0 } in s) i
 
-pub script_numbered : (ts : List Lexeme) (p : SeenScript) → IsScript ts p → numbered_program p ≡ p
+pub script_numbered : (ts : List Lexeme) (p : SeenScript) → IsScript ts p → numbered_script p ≡ p
 script_numbered _ _ (g.a_script k n ps ts us bs fs seps h i apart) =
     program_numbered bs fs k n
-    (subst (λ (cs : List SeenStatement). numbered_entries cs 1 ≡ (cs, k)) (append-nil bs) (entries_numbered 1 ts bs [] k k h refl))
+    (subst (λ (cs : List SeenStatement). numbered_statements cs 1 ≡ (cs, k)) (append-nil bs) (entries_numbered 1 ts bs [] k k h refl))
     (routines_numbered k us fs n i)
 script_numbered _ _ (g.a_script_to_the_end l k n ps ts us bs b seps h i) =
     program_numbered (bs ++ record { line = l; shown = true; form = b } ∷ []) [] n n

@@ -5,7 +5,7 @@ use Rattle.tall_grammar.specs.Lexemes.{Lexeme}
 use Rattle.tall_grammar.specs.Refusals.{line_of}
 use Rattle.tall_grammar.specs.Trees.{Tree, tree, Trees, no_trees, and_tree, Args, no_args, value_arg, colon_arg, Step, assign_step, add_step, if_step, while_step, for_step, Steps, no_steps, and_step, Arms, no_arms, and_arm, Body, assigned, gathered, property, bare, SeenStatement, SeenFunction, SeenScript}
 use Rattle.tall_grammar.specs.Trees as trees
-use Rattle.tall_script.specs.Numbering.{numbered, numbered_trees, numbered_args, numbered_body, numbered_step, numbered_steps, numbered_arms, numbered_entries, numbered_routines, numbered_program}
+use Rattle.tall_script.specs.Numbering.{numbered, numbered_trees, numbered_args, numbered_body, numbered_step, numbered_steps, numbered_arms, numbered_statements, numbered_functions, numbered_script}
 use Rattle.tall_script.specs.NumberLaws.{numbers_of, numbers_of_trees, numbers_of_args, numbers_of_body, numbers_of_step, numbers_of_steps, numbers_of_arms, numbers_of_statements, numbers_of_functions, numbers_of_script, AreInTurn, number_at, Ascends, AscendTo, ArgsAscendTo}
 use Rattle.tall_script.proofs.Numbers.{expr_numbered, script_numbered}
 
@@ -81,21 +81,21 @@ mutual
       both m p.1 r.1 (numbers_of p.0) (numbers_of_steps q.0 ++ numbers_of_arms r.0) (in_turn e (line_of e) m)
       (both p.1 q.1 r.1 (numbers_of_steps q.0) (numbers_of_arms r.0) (steps_in_turn b p.1) (arms_in_turn arms q.1))
 
-statements_in_turn : (bs : List SeenStatement) (m : ℕ) → AreInTurn m (numbers_of_statements (numbered_entries bs m).0) (numbered_entries bs m).1
+statements_in_turn : (bs : List SeenStatement) (m : ℕ) → AreInTurn m (numbers_of_statements (numbered_statements bs m).0) (numbered_statements bs m).1
 statements_in_turn [] m = refl
 statements_in_turn (b ∷ bs) m =
-    let p = numbered_body b.form b.line m in let q = numbered_entries bs p.1 in
+    let p = numbered_body b.form b.line m in let q = numbered_statements bs p.1 in
     both m p.1 q.1 (numbers_of_body p.0) (numbers_of_statements q.0) (body_in_turn b.form b.line m) (statements_in_turn bs p.1)
 
-functions_in_turn : (fs : List SeenFunction) (m : ℕ) → AreInTurn m (numbers_of_functions (numbered_routines fs m).0) (numbered_routines fs m).1
+functions_in_turn : (fs : List SeenFunction) (m : ℕ) → AreInTurn m (numbers_of_functions (numbered_functions fs m).0) (numbered_functions fs m).1
 functions_in_turn [] m = refl
 functions_in_turn (f ∷ fs) m =
-    let p = numbered_steps f.body m in let q = numbered_routines fs p.1 in
+    let p = numbered_steps f.body m in let q = numbered_functions fs p.1 in
     both m p.1 q.1 (numbers_of_steps p.0) (numbers_of_functions q.0) (steps_in_turn f.body m) (functions_in_turn fs p.1)
 
-program_in_turn : (p : SeenScript) → (next : ℕ) × AreInTurn 1 (numbers_of_script (numbered_program p)) next
+program_in_turn : (p : SeenScript) → (next : ℕ) × AreInTurn 1 (numbers_of_script (numbered_script p)) next
 program_in_turn p =
-    let a = numbered_entries p.statements 1 in let b = numbered_routines p.functions a.1 in
+    let a = numbered_statements p.statements 1 in let b = numbered_functions p.functions a.1 in
     (b.1, both 1 a.1 b.1 (numbers_of_statements a.0) (numbers_of_functions b.0) (statements_in_turn p.statements 1) (functions_in_turn p.functions a.1))
 
 pub script_in_turn : (ts : List Lexeme) (p : SeenScript) → IsScript ts p → (next : ℕ) × AreInTurn 1 (numbers_of_script p) next

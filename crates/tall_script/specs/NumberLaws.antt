@@ -1,5 +1,6 @@
 -- The numbers of expressions as a list, in the order of evaluation: those of the parts, and then that of the whole.
 use Rattle.std.specs.Prelude.{◌≡◌, ◌<◌, ℕ, suc, List, [], ◌∷◌, ◌++◌}
+use Rattle.std.specs.List.{All}
 use Rattle.tall_grammar.specs.Trees.{Tree, tree, Trees, no_trees, and_tree, Args, no_args, value_arg, colon_arg, Step, assign_step, add_step, if_step, while_step, for_step, Steps, no_steps, and_step, Arms, no_arms, and_arm, Body, assigned, gathered, property, bare, SeenStatement, SeenFunction, SeenScript}
 use Rattle.tall_grammar.specs.Trees as trees
 
@@ -61,6 +62,10 @@ numbers_of_script p = numbers_of_statements p.statements ++ numbers_of_functions
 abbrev pub AreInTurn : (first : ℕ) → List ℕ → (next : ℕ) → Type 0
 AreInTurn first [] next = first ≡ next
 AreInTurn first (n ∷ ns) next = (n ≡ first) × AreInTurn (suc first) ns next
+
+-- each number of the first list is below each of the second
+abbrev pub AreBelow : List ℕ → List ℕ → Type 0
+AreBelow ms ns = All (λ m. All (λ n. m < n) ns) ms
 
 -- ---- parts
 

@@ -63,17 +63,17 @@ abbrev mutual
   numbered_arms (and_arm e b arms) n =
       let p = numbered e (line_of e) n in let q = numbered_steps b p.1 in let r = numbered_arms arms q.1 in (and_arm p.0 q.0 r.0, r.1)
 
-abbrev pub numbered_entries : List SeenStatement → ℕ → List SeenStatement × ℕ
-numbered_entries [] n = ([], n)
-numbered_entries (b ∷ bs) n =
-    let p = numbered_body b.form b.line n in let q = numbered_entries bs p.1 in (record b { form = p.0 } ∷ q.0, q.1)
+abbrev pub numbered_statements : List SeenStatement → ℕ → List SeenStatement × ℕ
+numbered_statements [] n = ([], n)
+numbered_statements (b ∷ bs) n =
+    let p = numbered_body b.form b.line n in let q = numbered_statements bs p.1 in (record b { form = p.0 } ∷ q.0, q.1)
 
-abbrev pub numbered_routines : List SeenFunction → ℕ → List SeenFunction × ℕ
-numbered_routines [] n = ([], n)
-numbered_routines (f ∷ fs) n =
-    let p = numbered_steps f.body n in let q = numbered_routines fs p.1 in (record f { body = p.0 } ∷ q.0, q.1)
+abbrev pub numbered_functions : List SeenFunction → ℕ → List SeenFunction × ℕ
+numbered_functions [] n = ([], n)
+numbered_functions (f ∷ fs) n =
+    let p = numbered_steps f.body n in let q = numbered_functions fs p.1 in (record f { body = p.0 } ∷ q.0, q.1)
 
 -- numbers begin at 1
-abbrev pub numbered_program : SeenScript → SeenScript
-numbered_program s =
-    let p = numbered_entries s.statements 1 in let q = numbered_routines s.functions p.1 in record { statements = p.0; functions = q.0 }
+abbrev pub numbered_script : SeenScript → SeenScript
+numbered_script s =
+    let p = numbered_statements s.statements 1 in let q = numbered_functions s.functions p.1 in record { statements = p.0; functions = q.0 }

@@ -16,8 +16,8 @@ ghost use Rattle.tall_script.specs.AnswerLaws.{HasOneAllowance, HasOneAnswer};
 ghost use Rattle.tall_script.specs.Gathers.{gather_all, gather_value, talls_in};
 ghost use Rattle.tall_script.specs.MapReduce.{mapped, reduced};
 ghost use Rattle.tall_script.specs.MapReduceLaws.{joined_results, mapped_block, reduced_key};
-ghost use Rattle.tall_script.specs.NumberLaws.{AreInTurn, Ascends, numbers_of, numbers_of_script};
-ghost use Rattle.tall_script.specs.Numbering.{numbered, numbered_program};
+ghost use Rattle.tall_script.specs.NumberLaws.{AreBelow, AreInTurn, Ascends, numbers_of, numbers_of_body, numbers_of_script, numbers_of_statements};
+ghost use Rattle.tall_script.specs.Numbering.{numbered, numbered_script};
 ghost use Rattle.tall_script.specs.OpeningLaws.{IsQuiet, opens_none};
 ghost use Rattle.tall_script.specs.RunLaws.{BeginsWith, IsRunOf, continued};
 ghost use Rattle.tall_script.specs.Runs.{run_from};
@@ -35,11 +35,11 @@ ghost use Rattle.tall_store.specs.Options.{SeenOptions, is_size};
 ghost use Rattle.tall_store.specs.declared.faults.ReadingFault.{ReadingFault};
 ghost use Rattle.tall_value.specs.Cells.{Seen};
 
-/// The expressions of the grammar's scripts have the numbers that `numbered_program` gives: the parts in their order, then
+/// The expressions of the grammar's scripts have the numbers that `numbered_script` gives: the parts in their order, then
 /// the whole, from 1 on through the script.
 pub fn scripts_are_numbered_in_order()
     ensures expressions { (l m n : ℕ) (ts : List Lexeme) (e : Tree) → IsExpr l m ts e n → numbered e l m ≡ (e, n) }
-    ensures scripts { (ts : List Lexeme) (p : SeenScript) → IsScript ts p → numbered_program p ≡ p }
+    ensures scripts { (ts : List Lexeme) (p : SeenScript) → IsScript ts p → numbered_script p ≡ p }
 {}
 
 /// The numbers of a script's expressions, in the order of evaluation, are 1, 2, 3 and so on: those of a statement are above
@@ -47,6 +47,8 @@ pub fn scripts_are_numbered_in_order()
 pub fn numbers_are_in_turn()
     ensures expressions { (l m n : ℕ) (ts : List Lexeme) (e : Tree) → IsExpr l m ts e n → AreInTurn m (numbers_of e) n }
     ensures scripts { (ts : List Lexeme) (p : SeenScript) → IsScript ts p → (next : ℕ) × AreInTurn 1 (numbers_of_script p) next }
+    ensures later { (ts : List Lexeme) (p : SeenScript) (front rest : List SeenStatement) (entry : SeenStatement) → IsScript ts p → p.statements ≡ front ++ entry ∷ rest
+        → AreBelow (numbers_of_statements front) (numbers_of_body entry.form) }
 {}
 
 /// An expression's number is above those of its parts, and so it is in each part.

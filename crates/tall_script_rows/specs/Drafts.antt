@@ -6,7 +6,7 @@ use Rattle.tall_grammar.specs.declared.expressions.Prefix.TheVariants.{Minus, No
 use Rattle.tall_grammar.specs.declared.expressions.Infix.{Infix}
 use Rattle.tall_grammar.specs.Trees.{Tree, tree, Shape, Trees, no_trees, and_tree, Args, no_args, value_arg, colon_arg, Step, assign_step, add_step, if_step, while_step, for_step, Steps, no_steps, and_step, Arms, no_arms, and_arm, Body, assigned, gathered, property, bare, SeenStatement, SeenFunction, SeenScript}
 use Rattle.tall_grammar.specs.Trees as trees
-use Rattle.tall_script.specs.Numbering.{numbered_program}
+use Rattle.tall_script.specs.Numbering.{numbered_script}
 
 -- ---- expressions without number and line
 
@@ -95,7 +95,7 @@ abbrev pub parameter : String → Option (List ℕ)
 parameter s = Some (codes s)
 
 abbrev pub script_with : List SeenStatement → List SeenFunction → SeenScript
-script_with bs fs = numbered_program (record { statements = bs; functions = fs })
+script_with bs fs = numbered_script (record { statements = bs; functions = fs })
 
 abbrev pub script : List SeenStatement → SeenScript
 script bs = script_with bs []
