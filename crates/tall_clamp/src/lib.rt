@@ -15,6 +15,7 @@ mod terms;
 mod tests;
 mod totals;
 mod truths;
+mod untyped;
 
 pub use blocks::{fold_blocks, fold_rows, outcome};
 pub use clamps::Clamp;
@@ -25,3 +26,4 @@ pub use sums::ClampSum;
 pub use terms::Term;
 pub use totals::ExactSum;
 pub use truths::{AllTrue, And, AnyTrue, Connective, Count, Or, Truth};
+pub use untyped::UntypedSum;

@@ -11,6 +11,7 @@ use crate::bounds::{Bounds, between};
 use crate::folds::Fold;
 use crate::join::one_after;
 use crate::runs::of_run;
+use crate::untyped::UntypedSum;
 use std::marker::{Model, PhantomData};
 use tall_int::{IntClass, clamp};
 
@@ -73,6 +74,13 @@ impl<I: IntClass> ClampSum<I> {
                 class: PhantomData,
             },
         }
+    }
+
+    /// The sum where its class is known beside it.
+    pub fn untyped(self) -> UntypedSum
+        ensures { result ≡ self }
+    {
+        UntypedSum::of(self.bounds, self.rows)
     }
 
     /// The saturating sum of the rows from a start on, as a running sum over earlier rows.
