@@ -1,0 +1,5 @@
+pub mod NumberLemmas
+pub mod PlaceLemmas
+pub mod OrderLemmas
+pub mod RowLemmas
+pub mod SortLemmas

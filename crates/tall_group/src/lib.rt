@@ -1,0 +1,5 @@
+//! Distinct values and groups of columns, over any cut into blocks.
+#![tactic(auto)]
+
+mod numbers;
+mod keys;
