@@ -3,3 +3,5 @@ pub mod PlaceLemmas
 pub mod OrderLemmas
 pub mod RowLemmas
 pub mod SortLemmas
+pub mod UniqueLemmas
+pub mod PlacedLemmas

@@ -7,13 +7,15 @@ use Rattle.std.specs.declared.cmp.Ordering.{Ordering}
 use Rattle.std.specs.declared.cmp.Ordering.TheVariants.{Less, Equal, Greater}
 use Rattle.std.specs.Ordering.{is_eq, is_lt, int_cmp, bool_cmp}
 use Rattle.std.proofs.lemmas.List.{length-map}
-use Rattle.std.proofs.lemmas.List.Elements.{All-nil, All-cons, All-head, All-tail}
+use Rattle.std.proofs.lemmas.List.Elements.{All-nil, All-cons, All-head, All-tail, All-same}
 use Rattle.std.proofs.lemmas.List.Sorted.{All-permutation, IsPermutation-map, list_any-IsPermutation}
 use Rattle.tall_value.specs.Cells.{Seen, whole, logical, double, text, bit, seen_kind}
 use Rattle.tall_value.specs.CellOrder.{cell_order, nan_last}
 use Rattle.tall_value.specs.Groups.{is_of_group}
 use Rattle.tall_group.specs.Keys.{found, IsBelow, IsRising, StandAt, AreSorted}
 use Rattle.tall_dense.specs.Columns.{SeenColumn}
+use Rattle.tall_value.specs.declared.class.Class.{Class}
+use Rattle.tall_value.specs.Columns.{HasKind}
 use Rattle.tall_value.specs.declared.class.Kind.{Kind}
 use Rattle.tall_value.specs.declared.class.Kind.TheVariants.{Integer, Logical, Double, Text}
 use Rattle.tall_group.specs.Numbers.{number_of, number_or_nan, key_cell}
@@ -133,3 +135,23 @@ cells_alike k h e f p q = cells_equal k h e.0 f.0 p q ∙ sym (derived_eq e.0 f.
 pub sorted_numbers : (k : Kind) → IsNumeric k → (es fs : List (Number × ℕ)) → AreExact k es → ArePlaces es → IsPermutation es fs → IsSorted derived.cmp-value.it (keys_of fs) → IsDistinct same.eq-value.it (keys_of fs)
     → AreSorted (number_cells k es) (map (λ e. e.1) fs) (number_cells k fs)
 sorted_numbers k h es fs x p s d u = sorted_keys (key_cell k) derived.cmp-value.it same.eq-value.it (IsOwn k) (cells_ordered k h) (cells_alike k h) es fs (own_numbers k es x) p s d u
+
+number_kinds : (k : Kind) (es : List (Number × ℕ)) → All (HasKind k) (number_cells k es)
+number_kinds k [] = All-nil (HasKind k)
+number_kinds k (e ∷ es) = All-cons (HasKind k) (key_cell k e.0) (number_cells k es) (key_kind k e.0) (number_kinds k es)
+
+text_kinds : {A : Type 0} (bytes : A → List ℕ) (es : List A) → All (HasKind Text) (map (λ e. text (bytes e)) es)
+text_kinds bytes [] = All-nil (HasKind Text)
+text_kinds bytes (e ∷ es) = All-cons (HasKind Text) (text (bytes e)) (map (λ e. text (bytes e)) es) refl (text_kinds bytes es)
+
+kinds_given : {A E : Type 0} (k : Kind) (r : Result A E) (column : A → SeenColumn) (all : SeenColumn) → IfOk r (λ a. column a ≡ all) → All (HasKind k) all.cells → IfOk r (λ a. All (HasKind k) (column a).cells)
+kinds_given k (Ok a) column all c h = All-same (HasKind k) (column a).cells all.cells (ap (λ (x : SeenColumn). x.cells) c) h
+kinds_given k (Err e) column all c h = c
+
+pub numbers_given : {A E : Type 0} (k : Kind) (r : Result A E) (column : A → SeenColumn) (c : Class) (es : List (Number × ℕ))
+    → IfOk r (λ a. column a ≡ record { class = c; cells = number_cells k es }) → IfOk r (λ a. All (HasKind k) (column a).cells)
+numbers_given k r column c es h = kinds_given k r column (record { class = c; cells = number_cells k es }) h (number_kinds k es)
+
+pub texts_given : {A E B : Type 0} (r : Result A E) (column : A → SeenColumn) (c : Class) (bytes : B → List ℕ) (es : List B)
+    → IfOk r (λ a. column a ≡ record { class = c; cells = map (λ e. text (bytes e)) es }) → IfOk r (λ a. All (HasKind Text) (column a).cells)
+texts_given r column c bytes es h = kinds_given Text r column (record { class = c; cells = map (λ e. text (bytes e)) es }) h (text_kinds bytes es)

@@ -1,9 +1,12 @@
-//! Keys in the order in which they first came.
+//! Keys with their places, for each kind of key.
 ghost use Rattle.std.specs.Prelude.{◌≡◌, ◌<◌, [], IfOk, MatchResult, Some, length, map, slice_get, string_bytes};
 ghost use Rattle.tall_value.specs.declared.class.Class.TheVariants as class;
 ghost use Rattle.tall_value.specs.declared.class.Kind.{Kind};
+ghost use Rattle.tall_value.specs.declared.class.Kind.TheVariants.{Text};
 ghost use Rattle.tall_value.specs.Cells.{seen, seen_kind, text};
+ghost use Rattle.std.specs.List.{All};
 ghost use Rattle.tall_value.specs.Classes.{kind_of};
+ghost use Rattle.tall_value.specs.Columns.{HasKind};
 ghost use Rattle.tall_dense.specs.Columns.{class_of_cell};
 ghost use Rattle.tall_group.specs.Keys.{AreSorted, IsPlaced};
 ghost use Rattle.tall_group.specs.Tables.{AreExact, ArePlaces, IsNumeric, IsTable, keys_shown, number_cells};
@@ -11,7 +14,6 @@ ghost use Rattle.tall_group.specs.Tables.{AreExact, ArePlaces, IsNumeric, IsTabl
 use crate::numbers::{Number, key_cell, number_of};
 use indexmap::IndexMap;
 use std::alloc::{AllocError, Global};
-use std::marker::Model;
 use tall_column::Column;
 use tall_value::{Cell, Class};
 
@@ -139,6 +141,7 @@ fn sorted_numbers(
     requires places { ArePlaces numbers.entries }
     ensures class { IfOk result (λ r. r.column.class ≡ class) }
     ensures sorted { IfOk result (λ r. AreSorted (number_cells (kind_of class) numbers.entries) r.places.items r.column.cells) }
+    ensures kinds { IfOk result (λ r. All (HasKind (kind_of class)) r.column.cells) }
 {
     numbers.sort_keys()?;
     number_column(alloc, class, &numbers)
@@ -152,17 +155,43 @@ fn sorted_texts(
     requires places { ArePlaces texts.entries }
     ensures class { IfOk result (λ r. r.column.class ≡ class.Text) }
     ensures sorted { IfOk result (λ r. AreSorted (map (λ e. text (string_bytes e.0)) texts.entries) r.places.items r.column.cells) }
+    ensures kinds { IfOk result (λ r. All (HasKind Text) r.column.cells) }
 {
     texts.sort_keys()?;
     text_column(alloc, &texts)
 }
 
+/// The cell of the number at a place.
+fn number_at<'a>(numbers: &IndexMap<Number, usize>, class: Class, place: usize) -> Cell<'a>
+    requires { place < length (number_cells (kind_of class) numbers.now.entries) }
+    ensures cell { slice_get (number_cells (kind_of class) numbers.now.entries) place ≡ Some (seen result) }
+    ensures class { class_of_cell (seen result) ≡ class }
+{
+    let Some((number, _)) = numbers.get_index(place) else {
+        unreachable!()
+    };
+    key_cell(class.kind(), *number)
+}
+
+/// The cell of the text at a place.
+fn text_at(texts: &IndexMap<String, usize>, place: usize) -> Cell<'_>
+    requires { place < length (map (λ e. text (string_bytes e.0)) texts.now.entries) }
+    ensures cell { slice_get (map (λ e. text (string_bytes e.0)) texts.now.entries) place ≡ Some (seen result) }
+    ensures class { class_of_cell (seen result) ≡ class.Text }
+{
+    let Some((key, _)) = texts.get_index(place) else {
+        unreachable!()
+    };
+    Cell::Text(key.as_str())
+}
+
 impl Keys {
     /// The keys in rising order, each with its place.
-    fn sorted(self, alloc: Global, class: Class) -> Result<PlacedKeys, AllocError>
+    pub(crate) fn sorted(self, alloc: Global, class: Class) -> Result<PlacedKeys, AllocError>
         requires { IsTable (kind_of class) self }
         ensures class { IfOk result (λ r. r.column.class ≡ class) }
         ensures sorted { IfOk result (λ r. AreSorted (keys_shown (kind_of class) self) r.places.items r.column.cells) }
+        ensures kinds { IfOk result (λ r. All (HasKind (kind_of class)) r.column.cells) }
     {
         match self {
             Keys::Numbers(numbers) => sorted_numbers(alloc, class, numbers),
@@ -170,8 +199,21 @@ impl Keys {
         }
     }
 
+    /// The key at a place.
+    pub(crate) fn get(&self, class: Class, place: usize) -> Cell<'_>
+        requires table { IsTable (kind_of class) self.now }
+        requires within { place < length (keys_shown (kind_of class) self.now) }
+        ensures cell { slice_get (keys_shown (kind_of class) self.now) place ≡ Some (seen result) }
+        ensures class { class_of_cell (seen result) ≡ class }
+    {
+        match self {
+            Keys::Numbers(numbers) => number_at(numbers, class, place),
+            Keys::Texts(texts) => text_at(texts, place),
+        }
+    }
+
     /// The number of keys.
-    fn len(&self) -> usize
+    pub(crate) fn len(&self) -> usize
         ensures count { (kind : Kind) → result ≡ length (keys_shown kind self.now) }
     {
         match self {
@@ -181,77 +223,13 @@ impl Keys {
     }
 }
 
-fn no_keys(alloc: Global, class: Class) -> Keys
+/// No keys of a class.
+pub(crate) fn no_keys(alloc: Global, class: Class) -> Keys
     ensures table { IsTable (kind_of class) result }
     ensures none { keys_shown (kind_of class) result ≡ [] }
 {
     match class {
         Class::Text => Keys::Texts(IndexMap::new(alloc)),
         _ => Keys::Numbers(IndexMap::new(alloc)),
-    }
-}
-
-/// Distinct cells of one class, in the order in which they first came.
-#[derive(Drop)]
-pub(crate) struct KeyTable {
-    class: Class,
-    keys: Keys,
-    alloc: Global,
-}
-
-impl Model for KeyTable {
-    ghost use Rattle.tall_dense.specs.Columns.{SeenColumn};
-
-    ghost Value = { SeenColumn };
-
-    ghost use Rattle.tall_value.specs.Classes.{kind_of};
-    ghost use Rattle.tall_group.specs.Tables.{IsTable, table_shown};
-
-    ghost view = { λ t. table_shown t.class t.keys };
-
-    ghost invariant = { λ t. IsTable (kind_of t.class) t.keys };
-}
-
-impl KeyTable {
-    /// No cells.
-    pub(crate) fn new(alloc: Global, class: Class) -> KeyTable
-        ensures { result ≡ record { class = class; cells = [] } }
-    {
-        KeyTable {
-            class,
-            keys: no_keys(alloc, class),
-            alloc,
-        }
-    }
-
-    /// The number of cells.
-    pub(crate) fn len(&self) -> usize
-        ensures { result ≡ length self.now.cells }
-    {
-        self.keys.len()
-    }
-
-    /// The class of the cells.
-    pub(crate) fn class(&self) -> Class
-        ensures { result ≡ self.now.class }
-    {
-        self.class
-    }
-
-    /// The place of a cell of the class, which is added where it isn't there.
-    pub(crate) fn place(&mut self, cell: &Cell<'_>) -> Result<usize, AllocError>
-        requires { class_of_cell (seen cell.now) ≡ self.old.class }
-        ensures class { self.new.class ≡ self.old.class }
-        ensures key { MatchResult result (λ p. IsPlaced self.old.cells self.new.cells (seen cell.now) p) (λ _. self.new.cells ≡ self.old.cells) }
-    {
-        self.keys.place(self.alloc, cell)
-    }
-
-    /// The cells in rising order, each with its place.
-    pub(crate) fn sorted(self) -> Result<PlacedKeys, AllocError>
-        ensures class { IfOk result (λ r. r.column.class ≡ self.class) }
-        ensures sorted { IfOk result (λ r. AreSorted self.cells r.places.items r.column.cells) }
-    {
-        self.keys.sorted(self.alloc, self.class)
     }
 }

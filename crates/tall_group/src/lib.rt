@@ -2,4 +2,8 @@
 #![tactic(auto)]
 
 mod numbers;
+mod table;
 mod keys;
+mod unique;
+
+pub use unique::UniqueFold;
