@@ -2,7 +2,7 @@
 use Rattle.std.specs.Prelude.{◌≡◌, codes, refl, None, Some}
 use Rattle.std.specs.Fmt.{digits}
 use Rattle.tall_value.specs.declared.faults.FaultKind.TheVariants.{Inexact, NotWhole, NanLogical, NoRows}
-use Rattle.tall_local.specs.FaultLines.{refusal_text, stop_line, outside_text, outside_line, cannot_read, file_changed, file_too_large, cannot_write, out_of_memory, usage}
+use Rattle.tall_local.specs.FaultLines.{refusal_text, stop_line, outside_text, outside_line, cannot_read, file_changed, file_too_large, cannot_write, out_of_memory, fault_line, usage_text}
 use Rattle.tall_local.specs.Refusals.{stop_at, undefined, mixed_class, bad_class, incompatible, bad_size, bad_argument, bad_index, failed, no_file, no_header, header_differs, too_many_rows, too_many_fields, bad_field, bad_text, field_not_whole, field_inexact, no_value_left, no_progress, too_many_turns, bad_key, bad_value}
 
 -- ---- of a fault on line 3
@@ -141,6 +141,6 @@ of_memory : outside_line out_of_memory ≡ codes "tallrun: out of memory\n"
 unfolding outside_text digits
 of_memory = refl
 
-of_the_words : outside_line usage ≡ codes "tallrun: usage: tallrun [--workers N] SCRIPT\n"
+of_the_words : fault_line usage_text ≡ codes "tallrun: usage: tallrun [--workers N] SCRIPT\n"
 unfolding outside_text digits
 of_the_words = refl

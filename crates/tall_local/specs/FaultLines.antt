@@ -74,6 +74,10 @@ syntax_text line = on_line line (codes "syntax")
 abbrev pub no_script_text : List ℕ → List ℕ
 no_script_text name = codes "no file " ++ name
 
+-- words that are no command
+abbrev pub usage_text : List ℕ
+usage_text = codes "usage: tallrun [--workers N] SCRIPT"
+
 -- ---- of what the outside does
 
 -- what of the outside ends a run; the names are those of files
@@ -84,8 +88,6 @@ pub data OutsideFault : Type 0 where
   file_too_large : (name : List ℕ) → OutsideFault
   cannot_write : OutsideFault
   out_of_memory : OutsideFault
-  -- the words of the command are none
-  usage : OutsideFault
 
 unfoldable pub outside_text : OutsideFault → List ℕ
 outside_text (cannot_read name) = codes "cannot read " ++ name
@@ -93,7 +95,6 @@ outside_text (file_changed name rows more) = codes "file " ++ name ++ codes " ch
 outside_text (file_too_large name) = codes "file " ++ name ++ codes " above 2^50 bytes"
 outside_text cannot_write = codes "cannot write"
 outside_text out_of_memory = codes "out of memory"
-outside_text usage = codes "usage: tallrun [--workers N] SCRIPT"
 
 abbrev pub outside_line : OutsideFault → List ℕ
 outside_line f = fault_line (outside_text f)

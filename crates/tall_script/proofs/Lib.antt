@@ -3,7 +3,7 @@ mod StoresKept
 mod Numbers
 mod NumbersInTurn
 mod OpeningsKept
-mod OneAnswer
+pub mod OneAnswer
 mod Sizes
 mod MapReduceApart
 mod Standing
