@@ -25,3 +25,4 @@ pub mod MemoryLaws
 pub mod PrintingRows
 pub mod FaultLineRows
 pub mod LocalRows
+pub mod FunctionRows
