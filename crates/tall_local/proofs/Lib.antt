@@ -7,7 +7,7 @@ pub mod CallsAppended
 pub mod ValuesKept
 mod StopsKept
 mod FunctionStops
-mod StoreKept
+pub mod StoreKept
 mod MemoryClasses
 mod ApplicationOperands
 mod LocalsHeld

@@ -14,3 +14,4 @@ mod QuietCalls
 mod SizesApart
 mod SizedOpenings
 mod LaterNumbers
+mod PhaseStores

@@ -21,3 +21,5 @@ pub mod OpeningLaws
 pub mod AnswerLaws
 pub mod SizeLaws
 pub mod MapReduceLaws
+pub mod StoreArgumentRows
+pub mod BlockLaws

@@ -3,6 +3,7 @@ ghost use Rattle.std.specs.Prelude.{◌≡◌, ◌≤◌, ◌++◌, ℕ, Bool, t
 ghost use Rattle.std.specs.List.{flat_map};
 ghost use Rattle.tall_column.specs.Columns.{SeenColumn};
 ghost use Rattle.tall_cut.specs.declared.cutter.ReadSize.{ReadSize};
+ghost use Rattle.tall_cut.specs.declared.cutter.ReadSize.TheVariants.{File};
 ghost use Rattle.tall_grammar.specs.Grammar.{IsExpr, IsScript};
 ghost use Rattle.tall_grammar.specs.Lexemes.{Lexeme};
 ghost use Rattle.tall_grammar.specs.Trees.{Args, Body, SeenFunction, SeenScript, SeenStatement, Tree};
@@ -10,8 +11,12 @@ ghost use Rattle.tall_local.specs.CallsMade.{listing, unlisted};
 ghost use Rattle.tall_local.specs.Expressions.{arguments, gives, value};
 ghost use Rattle.tall_local.specs.Memory.{Memory};
 ghost use Rattle.tall_local.specs.Pairs.{Pair};
+ghost use Rattle.tall_local.specs.StoreLaws.{IsStore};
 ghost use Rattle.tall_local.specs.Values.{datastore};
 ghost use Rattle.tall_outside.specs.Shelf.{Files};
+ghost use Rattle.tall_script.specs.BlockLaws.{IsStoreOrStop};
+ghost use Rattle.tall_store.specs.Blocks.{in_blocks};
+ghost use Rattle.tall_cut.specs.Rows.{Fields};
 ghost use Rattle.tall_script.specs.AnswerLaws.{HasOneAllowance, HasOneAnswer};
 ghost use Rattle.tall_script.specs.Gathers.{gather_all, gather_value, talls_in};
 ghost use Rattle.tall_script.specs.MapReduce.{mapped, reduced};
@@ -117,6 +122,15 @@ pub fn mapreduce_is_made_of_calls_on_empty_stores()
     ensures map_phase { (d : Store) (f : SeenFunction) (blocks : List (Result (List (List ℕ × SeenColumn)) ReadingFault)) (pairs : List Pair)
         → mapped d f blocks pairs ≡ joined_results (map (mapped_block d f) blocks) pairs }
     ensures reduce_phase { (f : SeenFunction) (pairs : List Pair) (keys : List Seen) (out : List Pair) → reduced f pairs keys out ≡ joined_results (map (reduced_key f pairs) keys) out }
+{}
+
+/// Each phase of mapreduce keeps the rules of its store: keys that a store takes, of one class, values of one class, and fewer than
+/// 2^40 pairs. With 'file' a block is all of a file that has a record, and of one without there is none.
+pub fn phases_keep_their_stores()
+    ensures map_phase { (d : Store) (f : SeenFunction) (blocks : List (Result (List (List ℕ × SeenColumn)) ReadingFault)) (pairs : List Pair) → IsStore pairs → IsStoreOrStop (mapped d f blocks pairs) }
+    ensures reduce_phase { (f : SeenFunction) (pairs : List Pair) (keys : List Seen) (out : List Pair) → IsStore out → IsStoreOrStop (reduced f pairs keys out) }
+    ensures whole_file { (first : Fields) (rest : List Fields) → in_blocks File (first ∷ rest) ≡ (first ∷ rest) ∷ [] }
+    ensures no_record { in_blocks File [] ≡ [] }
 {}
 
 /// What is named in a script's state is there: the place of a datastore is that of one that was made, tall values read such

@@ -5,6 +5,7 @@ pub mod RunRows
 pub mod TableRunRows
 pub mod ValueRows
 pub mod MapReduceRows
+pub mod MapReduceFaultRows
 pub mod ReadingRows
 pub mod OpeningsRows
 pub mod ParseFaultRows
