@@ -1,25 +1,34 @@
--- The first script, from its bytes to what it prints.
-use Rattle.std.proofs.Common.{ℕ, [], ◌∷◌, refl, arith}
-use Rattle.std.specs.Prelude.{codes}
+-- The first script and the demo, from their bytes to what they print.
+use Rattle.std.proofs.Common.{◌≡◌, ℕ, List, [], ◌∷◌, refl, sym, subst}
+use Rattle.std.specs.Prelude.{⊤, Some, codes}
 use Rattle.std.proofs.Math.Utf8.{encode}
 use Rattle.std.specs.Str.{chars, is_utf8}
 use Rattle.std.specs.Str.Lossy.{utf8_valid_len}
+use Rattle.clap.proofs.OnLiterals.{clap_on_literals}
 use Rattle.tall_lex.specs.Bytes.{is_reserved}
 use Rattle.tall_lex.specs.Numbers.{is_whole_number}
 use Rattle.tall_lex.specs.Pieces.{piece_at, name_piece, number_piece, number_len, fraction_len, exponent_len, text_piece, comment_piece, joined_piece, sign_piece}
 use Rattle.tall_lex.specs.Tokens.{tokens_from, tokens_of_bytes}
-use Rattle.tall_lex.specs.declared.tokens.TokenKind.TheVariants.{LineEnd}
-use Rattle.tall_grammar.specs.Lexemes.{Lexeme, sign}
+use Rattle.tall_grammar.specs.ExprReader.{args_from, post_from, signs_from, signed, chain_from, level, expr_within}
+use Rattle.tall_grammar.specs.Readers.{listed_from}
+use Rattle.tall_grammar.specs.Refusals.{Parses, read}
+use Rattle.tall_grammar.specs.ScriptReader.{statements_from, arms_from, steps_from, steps_within, functions_from}
 use Rattle.tall_grammar.specs.Trees.{SeenScript}
-use Rattle.tall_grammar.specs.Grammar.{a_script, no_functions, no_statements, next_statement, name_body, one_conj, one_cmp, one_sum, one_prod, one_pre, one_post, one_primary, member_of, call_of, a_text, a_name, a_list, in_braces, some_listed, no_more_texts, with_args, last_value, next_value}
-use Rattle.tall_grammar.specs.Refusals.{Parses, has_tokens, is_script, read}
+use Rattle.tall_grammar.proofs.OfBytes.{verdict_tells}
+use Rattle.tall_outside.specs.Shelf.{Files}
 use Rattle.tall_script.specs.Answers.{Answers, of_script}
+use Rattle.tall_words.specs.Commands.{command, run_demo}
+use Rattle.tall_words.specs.Demo.{demo_files, rows_text, script_text}
+use Rattle.tall_answer.specs.CommandAnswers.{AnswersAsked, AnswersWords, of_command}
+use Rattle.tall_script_rows.specs.DemoRun.{demo_words, demo_script, demo_answer}
 use Rattle.tall_script_rows.specs.Drafts.{script, shown, silent, sets, call, member, name, text, texts}
 use Rattle.tall_script_rows.specs.FirstRun.{first_files, first_script_bytes}
 use Rattle.tall_script_rows.specs.RowWords.{prints, whole_runs}
 
-line_end : ℕ → Lexeme
-line_end l = record { kind = LineEnd; line = l; text = 10 ∷ [] }
+-- unfolded, it lets bytes be read by computing
+unfoldable reading : ⊤
+unfolding tokens_of_bytes utf8_valid_len is_utf8 chars encode tokens_from piece_at name_piece is_reserved number_piece number_len fraction_len exponent_len is_whole_number text_piece comment_piece joined_piece sign_piece args_from post_from signs_from signed chain_from level expr_within listed_from statements_from arms_from steps_from steps_within functions_from
+reading = tt
 
 first_script : SeenScript
 first_script = script (
@@ -29,18 +38,26 @@ first_script = script (
     ∷ shown 4 (sets "s" (call "gather" (name "s" ∷ []))) ∷ [])
 
 parsed : Parses first_script_bytes (read first_script)
-unfolding tokens_of_bytes utf8_valid_len is_utf8 chars encode tokens_from piece_at name_piece is_reserved number_piece number_len fraction_len exponent_len is_whole_number text_piece comment_piece joined_piece sign_piece first_script line_end
-parsed = has_tokens (omega arith) refl (is_script refl (a_script _ _ [] _ [] _ _ refl
-    (next_statement _ _ _ _ _ (line_end 1 ∷ []) _ (sign 1 (codes ";")) _ _
-    (name_body _ _ _ _ _ _ _ (one_conj _ _ _ _ _ (one_cmp _ _ _ _ _ (one_sum _ _ _ _ _ (one_prod _ _ _ _ _ (one_pre _ _ _ _ _ (one_post _ _ _ _ _ (call_of _ _ _ _ _ _ _ _ _ _ (one_primary _ _ _ _ _ (a_name _ _ _ _)) (with_args _ _ _ _ _ (next_value _ _ _ _ _ _ _ _ _ (one_conj _ _ _ _ _ (one_cmp _ _ _ _ _ (one_sum _ _ _ _ _ (one_prod _ _ _ _ _ (one_pre _ _ _ _ _ (one_post _ _ _ _ _ (one_primary _ _ _ _ _ (a_text _ _ _ (codes "'a.csv'"))))))))) (next_value _ _ _ _ _ _ _ _ _ (one_conj _ _ _ _ _ (one_cmp _ _ _ _ _ (one_sum _ _ _ _ _ (one_prod _ _ _ _ _ (one_pre _ _ _ _ _ (one_post _ _ _ _ _ (one_primary _ _ _ _ _ (a_text _ _ _ (codes "'TextscanFormats'"))))))))) (last_value _ _ _ _ _ (one_conj _ _ _ _ _ (one_cmp _ _ _ _ _ (one_sum _ _ _ _ _ (one_prod _ _ _ _ _ (one_pre _ _ _ _ _ (one_post _ _ _ _ _ (one_primary _ _ _ _ _ (a_list _ _ _ _ _ (in_braces _ _ _ _ _ _ _ (some_listed _ _ _ _ _ _ _ (no_more_texts _ _))))))))))))))))))))))) refl refl
-    (next_statement _ _ _ _ _ (line_end 2 ∷ []) _ (sign 2 (codes ";")) _ _
-    (name_body _ _ _ _ _ _ _ (one_conj _ _ _ _ _ (one_cmp _ _ _ _ _ (one_sum _ _ _ _ _ (one_prod _ _ _ _ _ (one_pre _ _ _ _ _ (one_post _ _ _ _ _ (call_of _ _ _ _ _ _ _ _ _ _ (one_primary _ _ _ _ _ (a_name _ _ _ _)) (with_args _ _ _ _ _ (last_value _ _ _ _ _ (one_conj _ _ _ _ _ (one_cmp _ _ _ _ _ (one_sum _ _ _ _ _ (one_prod _ _ _ _ _ (one_pre _ _ _ _ _ (one_post _ _ _ _ _ (one_primary _ _ _ _ _ (a_name _ _ _ _)))))))))))))))))) refl refl
-    (next_statement _ _ _ _ _ (line_end 3 ∷ []) _ (sign 3 (codes ";")) _ _
-    (name_body _ _ _ _ _ _ _ (one_conj _ _ _ _ _ (one_cmp _ _ _ _ _ (one_sum _ _ _ _ _ (one_prod _ _ _ _ _ (one_pre _ _ _ _ _ (one_post _ _ _ _ _ (call_of _ _ _ _ _ _ _ _ _ _ (one_primary _ _ _ _ _ (a_name _ _ _ _)) (with_args _ _ _ _ _ (next_value _ _ _ _ _ _ _ _ _ (one_conj _ _ _ _ _ (one_cmp _ _ _ _ _ (one_sum _ _ _ _ _ (one_prod _ _ _ _ _ (one_pre _ _ _ _ _ (one_post _ _ _ _ _ (member_of _ _ _ _ _ _ _ _ (one_primary _ _ _ _ _ (a_name _ _ _ _))))))))) (last_value _ _ _ _ _ (one_conj _ _ _ _ _ (one_cmp _ _ _ _ _ (one_sum _ _ _ _ _ (one_prod _ _ _ _ _ (one_pre _ _ _ _ _ (one_post _ _ _ _ _ (one_primary _ _ _ _ _ (a_text _ _ _ (codes "'native'")))))))))))))))))))) refl refl
-    (next_statement _ _ _ _ _ [] _ (line_end 4) _ _
-    (name_body _ _ _ _ _ _ _ (one_conj _ _ _ _ _ (one_cmp _ _ _ _ _ (one_sum _ _ _ _ _ (one_prod _ _ _ _ _ (one_pre _ _ _ _ _ (one_post _ _ _ _ _ (call_of _ _ _ _ _ _ _ _ _ _ (one_primary _ _ _ _ _ (a_name _ _ _ _)) (with_args _ _ _ _ _ (last_value _ _ _ _ _ (one_conj _ _ _ _ _ (one_cmp _ _ _ _ _ (one_sum _ _ _ _ _ (one_prod _ _ _ _ _ (one_pre _ _ _ _ _ (one_post _ _ _ _ _ (one_primary _ _ _ _ _ (a_name _ _ _ _)))))))))))))))))) refl refl
-    (no_statements _))))) (no_functions _) refl) refl)
+unfolding reading first_script
+parsed = verdict_tells 60 5 first_script_bytes (read first_script) refl
 
 pub first_answer : Answers first_files (codes "s.m") (prints (codes "s = int16 31767\n"))
 unfolding whole_runs first_script
 first_answer = of_script refl parsed
+
+-- ---- the demo
+
+demo_parsed : Parses script_text (read demo_script)
+unfolding reading
+demo_parsed = verdict_tells 90 6 script_text (read demo_script) refl
+
+asked : command demo_words ≡ Some (run_demo 5 4)
+unfolding clap_on_literals
+asked = refl
+
+over_five_rows : (files : Files) → AnswersAsked files (Some (run_demo 5 4)) demo_answer
+unfolding whole_runs rows_text
+over_five_rows files = of_command (of_script refl demo_parsed)
+
+pub demo_answered : (files : Files) → AnswersWords files demo_words demo_answer
+demo_answered files = subst (λ o. AnswersAsked files o demo_answer) (sym asked) (over_five_rows files)

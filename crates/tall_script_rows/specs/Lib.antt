@@ -1,6 +1,7 @@
 pub mod Drafts
 pub mod RowWords
 pub mod FirstRun
+pub mod DemoRun
 pub mod RunRows
 pub mod TableRunRows
 pub mod ValueRows

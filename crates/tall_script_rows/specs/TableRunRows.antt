@@ -73,20 +73,6 @@ flights : answer_of ((codes "air.csv", 239 ∷ 187 ∷ 191 ∷ codes "Year,Carri
 unfolding whole_runs
 flights = refl
 
--- demo.csv: g,v / g3,70 / g3,-2 / g3,1 / g0,-21 / g1,-53
--- 1: ds = tabularTextDatastore('demo.csv', 'TextscanFormats', {'%q', '%d8'});
--- 2: T = tall(ds);
--- 3: [n, s, t] = gather(height(T), sum(T.v), sum(T.v, 'native'))
--- 4: G = gather(groupsummary(T, 'g', 'sum', 'v'))
-demo_of_five_rows : answer_of ((codes "demo.csv", codes "g,v\ng3,70\ng3,-2\ng3,1\ng0,-21\ng1,-53\n") ∷ []) (read (script (
-    silent 1 (sets "ds" (call "tabularTextDatastore" (text "demo.csv" ∷ text "TextscanFormats" ∷ texts ("%q" ∷ "%d8" ∷ []) ∷ []))) ∷
-    silent 2 (sets "T" (call "tall" (name "ds" ∷ []))) ∷
-    shown 3 (gathers ("n" ∷ "s" ∷ "t" ∷ []) (call "height" (name "T" ∷ []) ∷ call "sum" (member (name "T") "v" ∷ []) ∷ call "sum" (member (name "T") "v" ∷ text "native" ∷ []) ∷ [])) ∷
-    shown 4 (sets "G" (call "gather" (call "groupsummary" (name "T" ∷ text "g" ∷ text "sum" ∷ text "v" ∷ []) ∷ []))) ∷ [])))
-    ≡ prints (codes "n = double 5\ns = double -5\nt = int8 -5\nG = table 3x3\n    g  GroupCount  sum_v\n    \"g0\"  1  -21\n    \"g1\"  1  -53\n    \"g3\"  3  69\n")
-unfolding whole_runs
-demo_of_five_rows = refl
-
 -- a.csv: x,x, / 1,2,3
 -- 1: ds = tabularTextDatastore('a.csv');
 -- 2: T = tall(ds);
