@@ -1,6 +1,6 @@
 -- Values over some rows: they exist and are the only ones, over no rows they have none, and over all rows they are those of
 -- the definition. A block and those behind it are parts of all rows, and a fault of the block precedes one behind it.
-use Rattle.std.specs.Prelude.{◌≡◌, refl, ℕ, zero, suc, ◌<◌, ◌≤◌, if◌then◌else◌, Bool, true, false, Option, None, Some, Ok, List, [], ◌∷◌, map, slice_get}
+use Rattle.std.specs.Prelude.{◌≡◌, refl, ℕ, zero, suc, ◌<◌, ◌≤◌, if◌then◌else◌, Bool, true, false, Option, None, Some, List, [], ◌∷◌, ◌++◌, map, slice_get}
 use Rattle.std.proofs.Common.{ap, sym, subst, ◌∙◌, arith, inl, inr}
 use Rattle.tall_value.specs.Cells.{Seen}
 use Rattle.tall_value.specs.declared.functions.Scan.{Scan}
@@ -9,37 +9,34 @@ use Rattle.tall_semantics.specs.Operations.{Op, constant, unary, binary, filter,
 use Rattle.tall_semantics.specs.Faults.{At, Fault, least_fault, precedes}
 use Rattle.tall_semantics.specs.Outcomes.{Outcome, rows, fault_of, rows_in, cells_in, row_by_row, elementwise_one, elementwise_two}
 use Rattle.tall_value.specs.Filters.{kept}
-use Rattle.tall_value.specs.declared.class.Kind.{Kind}
-use Rattle.tall_value.specs.declared.class.Kind.TheVariants.{Integer, Logical, Double, Text}
-use Rattle.tall_value.specs.declared.functions.Scan.TheVariants.{CumSum, CumMin, CumMax}
 use Rattle.tall_semantics.specs.Talls.{Tall, Columns, outcomes, own_outcome, unless}
 use Rattle.tall_semantics.specs.Numbered.{AreNumbered}
 use Rattle.tall_semantics.specs.Deferred.{Vertex, IsMeaning, AllBelow, IsOrdered, IsAmong, own_in, fault_in}
-use Rattle.tall_blocks.specs.Carries.{carry_after, scanned_from, scan_start}
+use Rattle.tall_blocks.specs.Carries.{AllCells, HasScanKind, scanned_behind}
 use Rattle.tall_blocks.specs.Blocks.{Block, block_columns, all_rows, IsVariable, RowsBelow, RowsFrom}
 use Rattle.tall_blocks.proofs.SeenLaws.{IsSplit}
 use Rattle.tall_blocks.specs.Cut.{CanBeCut, AreCut, IsCutWork}
-use Rattle.tall_blocks.specs.ValuesOver.{carry_of, carry_at, next_carries, own_over, outcome_over, value_over, IsOver, outcome_at, outcomes_in, outcomes_over}
+use Rattle.tall_blocks.specs.ValuesOver.{no_cells, more_cells, more_cells_at, next_cells, own_over, outcome_over, value_over, IsOver, outcome_at, outcomes_in, outcomes_over}
 use Rattle.tall_semantics.proofs.InOrderLaws.{same_values}
 use Rattle.tall_semantics.proofs.OriginLaws.{get_before, below_among, tall_outcome}
 use Rattle.tall_blocks.proofs.SeenLaws.{own_split, own_of, all_none, known_none, own_fault_number}
 use Rattle.tall_blocks.proofs.Choices.{true_or_false, if_true, if_false}
 use Rattle.tall_blocks.proofs.FaultRowLaws.{fault_holds, later_row}
-use Rattle.tall_blocks.proofs.RowLaws.{scan_begins}
+use Rattle.tall_blocks.proofs.CarryLaws.{scan_begins}
 use Rattle.tall_semantics.proofs.Basics.{inside}
 use Rattle.tall_semantics.proofs.MeaningLaws.{stored_value, made_value}
 
 -- ---- they exist
 
-module _ (columns : Columns) (carries : ℕ → Seen) (vs : List Vertex) (f : ℕ → Tall) (cut : ℕ → Bool) (ordered : IsOrdered vs) where
+module _ (columns : Columns) (so_far : ℕ → List Seen) (vs : List Vertex) (f : ℕ → Tall) (cut : ℕ → Bool) (ordered : IsOrdered vs) where
   abbrev O : ℕ → ℕ → Outcome
-  O n i = outcomes_in columns carries vs f cut n i
+  O n i = outcomes_in columns so_far vs f cut n i
 
   -- so many steps as the place tells are enough, and further ones change nothing
-  steps_at : (m n i : ℕ) (o : Option Vertex) → ((v : Vertex) → o ≡ Some v → AllBelow i v.args) → ((a : ℕ) → a < i → O m a ≡ O n a) → outcome_at columns carries f cut (O m) o i ≡ outcome_at columns carries f cut (O n) o i
+  steps_at : (m n i : ℕ) (o : Option Vertex) → ((v : Vertex) → o ≡ Some v → AllBelow i v.args) → ((a : ℕ) → a < i → O m a ≡ O n a) → outcome_at columns so_far f cut (O m) o i ≡ outcome_at columns so_far f cut (O n) o i
   steps_at m n i None below same = refl
   steps_at m n i (Some v) below same =
-      ap (λ xs. if cut i then outcome_over columns (carries i) v.at v.made xs else (f i).outcome)
+      ap (λ xs. if cut i then outcome_over columns (so_far i) v.at v.made xs else (f i).outcome)
       (same_values (value_over f (O m)) (value_over f (O n)) i v.args (λ a l. ap (λ (o : Outcome). record { shape = (f a).shape; outcome = o }) (same a l)) (below v refl))
 
   steps : (m n i : ℕ) → i < m → i < n → O m i ≡ O n i
@@ -47,29 +44,29 @@ module _ (columns : Columns) (carries : ℕ → Seen) (vs : List Vertex) (f : �
   steps (suc m) zero i l k = absurd (omega (arith, k))
   steps (suc m) (suc n) i l k = steps_at m n i (slice_get vs i) (λ v e. ordered i v e) (λ a less. steps m n a (omega (arith, less, l)) (omega (arith, less, k)))
 
-  known_at : (h : ℕ → Outcome) (o : Option Vertex) (i : ℕ) → cut i ≡ false → outcome_at columns carries f cut h o i ≡ (f i).outcome
+  known_at : (h : ℕ → Outcome) (o : Option Vertex) (i : ℕ) → cut i ≡ false → outcome_at columns so_far f cut h o i ≡ (f i).outcome
   known_at h None i n = refl
-  known_at h (Some v) i n = if_false (cut i) (outcome_over columns (carries i) v.at v.made (map (value_over f h) v.args)) (f i).outcome n
+  known_at h (Some v) i n = if_false (cut i) (outcome_over columns (so_far i) v.at v.made (map (value_over f h) v.args)) (f i).outcome n
 
-  pub over_exists : IsOver columns carries vs f cut (outcomes_over columns carries vs f cut)
+  pub over_exists : IsOver columns so_far vs f cut (outcomes_over columns so_far vs f cut)
   over_exists = record {
     made = λ i v e c.
-        ap (λ o. outcome_at columns carries f cut (O i) o i) e
-        ∙ (if_true (cut i) (outcome_over columns (carries i) v.at v.made (map (value_over f (O i)) v.args)) (f i).outcome c
-        ∙ ap (λ xs. outcome_over columns (carries i) v.at v.made xs)
+        ap (λ o. outcome_at columns so_far f cut (O i) o i) e
+        ∙ (if_true (cut i) (outcome_over columns (so_far i) v.at v.made (map (value_over f (O i)) v.args)) (f i).outcome c
+        ∙ ap (λ xs. outcome_over columns (so_far i) v.at v.made xs)
         (same_values (value_over f (O i)) (value_over f (λ a. O (suc a) a)) i v.args (λ a l. ap (λ (o : Outcome). record { shape = (f a).shape; outcome = o }) (steps i (suc a) a l (omega (arith)))) (ordered i v e)));
     known = λ i n. known_at (O i) (slice_get vs i) i n;
   }
 
 -- ---- there are no others
 
-module _ {columns : Columns} {carries : ℕ → Seen} {vs : List Vertex} {f : ℕ → Tall} {cut : ℕ → Bool} {h k : ℕ → Outcome} (over : IsOver columns carries vs f cut h) (other : IsOver columns carries vs f cut k) (ordered : IsOrdered vs) where
+module _ {columns : Columns} {so_far : ℕ → List Seen} {vs : List Vertex} {f : ℕ → Tall} {cut : ℕ → Bool} {h k : ℕ → Outcome} (over : IsOver columns so_far vs f cut h) (other : IsOver columns so_far vs f cut k) (ordered : IsOrdered vs) where
   only_below : (n i : ℕ) (v : Vertex) → i < n → slice_get vs i ≡ Some v → h i ≡ k i
   only_below zero i v l e = absurd (omega (arith, l))
   only_below (suc n) i v l e = elim (true_or_false (cut i)) [
     | inl c ↦
         over.made i v e c
-        ∙ (ap (λ xs. outcome_over columns (carries i) v.at v.made xs)
+        ∙ (ap (λ xs. outcome_over columns (so_far i) v.at v.made xs)
         (same_values (value_over f h) (value_over f k) i v.args (λ a less. ap (λ (o : Outcome). record { shape = (f a).shape; outcome = o }) (let b = get_before vs i a v e less in only_below n a b.0 (omega (arith, l, less)) b.1)) (ordered i v e))
         ∙ sym (other.made i v e c))
     | inr n2 ↦ over.known i n2 ∙ sym (other.known i n2)
@@ -80,16 +77,8 @@ module _ {columns : Columns} {carries : ℕ → Seen} {vs : List Vertex} {f : �
 
 -- ---- no rows
 
-module _ {carries : ℕ → Seen} {vs : List Vertex} {f : ℕ → Tall} {cut : ℕ → Bool} {h : ℕ → Outcome} (over : IsOver (block_columns (all_rows [])) carries vs f cut h) (can : AreCut f cut vs) (ordered : IsOrdered vs) where
-  empty_scan : (s : Scan) (a : Kind) (c : Seen) → scanned_from s a c [] ≡ Ok []
-  empty_scan CumSum (Integer k) c = refl
-  empty_scan CumSum Logical c = refl
-  empty_scan CumSum Double c = refl
-  empty_scan CumSum Text c = refl
-  empty_scan CumMin a c = refl
-  empty_scan CumMax a c = refl
-
-  empty_own : (c : Seen) (at : At) (op : Op) (args : List ℕ) → CanBeCut f cut (operation op) args → ((a : ℕ) → IsAmong args a → cut a ≡ true → h a ≡ rows []) → own_over c at op (map (value_over f h) args) ≡ rows []
+module _ {so_far : ℕ → List Seen} {vs : List Vertex} {f : ℕ → Tall} {cut : ℕ → Bool} {h : ℕ → Outcome} (over : IsOver (block_columns (all_rows [])) so_far vs f cut h) (can : AreCut f cut vs) (ordered : IsOrdered vs) where
+  empty_own : (c : List Seen) (at : At) (op : Op) (args : List ℕ) → CanBeCut f cut (operation op) args → ((a : ℕ) → IsAmong args a → cut a ≡ true → h a ≡ rows []) → own_over c at op (map (value_over f h) args) ≡ rows []
   empty_own c at (constant x) args k g = absurd k
   empty_own c at (unary op) [] k g = absurd k
   empty_own c at (unary op) (a ∷ []) k g = ap (elementwise_one at op) (g a (inl refl) k)
@@ -109,7 +98,7 @@ module _ {carries : ℕ → Seen} {vs : List Vertex} {f : ℕ → Tall} {cut : �
   empty_own c at filter (a ∷ m ∷ []) k g = ap (λ o. rows (kept (rows_in o) (cells_in (h m)))) (g a (inl refl) k.0)
   empty_own c at filter (a ∷ m ∷ d ∷ args) k g = absurd k
   empty_own c at (scan s) [] k g = absurd k
-  empty_own c at (scan s) (a ∷ []) k g = ap (λ o. row_by_row at (scanned_from s (kind_of (f a).shape.class) c (rows_in o))) (g a (inl refl) k) ∙ ap (row_by_row at) (empty_scan s (kind_of (f a).shape.class) c)
+  empty_own c at (scan s) (a ∷ []) k g = ap (λ o. row_by_row at (scanned_behind s (kind_of (f a).shape.class) c (rows_in o))) (g a (inl refl) k)
   empty_own c at (scan s) (a ∷ b ∷ args) k g = absurd k
   empty_own c at (reduce r) args k g = absurd k
   empty_own c at (head n) args k g = absurd k
@@ -118,11 +107,11 @@ module _ {carries : ℕ → Seen} {vs : List Vertex} {f : ℕ → Tall} {cut : �
   empty_own c at (group m part) args k g = absurd k
 
   empty_made : (i : ℕ) (v : Vertex) (m : Made) → slice_get vs i ≡ Some v → cut i ≡ true → v.made ≡ m → ((a : ℕ) → IsAmong v.args a → cut a ≡ true → h a ≡ rows []) → h i ≡ rows []
-  empty_made i v (stored s a k) e c q g = subst (λ m. h i ≡ outcome_over (block_columns (all_rows [])) (carries i) v.at m (map (value_over f h) v.args)) q (over.made i v e c)
+  empty_made i v (stored s a k) e c q g = subst (λ m. h i ≡ outcome_over (block_columns (all_rows [])) (so_far i) v.at m (map (value_over f h) v.args)) q (over.made i v e c)
   empty_made i v (operation op) e c q g =
       own_of over can i v op e c q (all_none (fault_in (value_over f h)) v.args
       (λ a m. elim (true_or_false (cut a)) [ inl y ↦ ap fault_of (g a m y) | inr n ↦ known_none over can i a v e c m n ]))
-      ∙ empty_own (carries i) v.at op v.args (subst (λ m. CanBeCut f cut m v.args) q (can i v e c)) g
+      ∙ empty_own (so_far i) v.at op v.args (subst (λ m. CanBeCut f cut m v.args) q (can i v e c)) g
 
   empty_below : (n i : ℕ) (v : Vertex) → i < n → slice_get vs i ≡ Some v → cut i ≡ true → h i ≡ rows []
   empty_below zero i v l e c = absurd (omega (arith, l))
@@ -143,25 +132,25 @@ module _ {carries : ℕ → Seen} {vs : List Vertex} {f : ℕ → Tall} {cut : �
       cc
 
 module _ (vs : List Vertex) (f : ℕ → Tall) (cut : ℕ → Bool) (ordered : IsOrdered vs) (can : AreCut f cut vs) where
-  scan_goes_on : (g : ℕ → Outcome) (carries : ℕ → Seen) (i a : ℕ) (v : Vertex) (s : Scan) → slice_get vs i ≡ Some v → v.made ≡ operation (scan s) → v.args ≡ a ∷ [] → next_carries vs f g carries i ≡ carry_after s (kind_of (f a).shape.class) (carries i) (rows_in (g a))
-  scan_goes_on g carries i a v s e q r =
-      ap (λ o. carry_at f g o (carries i)) e ∙ (ap (λ m. carry_of f g m v.args (carries i)) q ∙ ap (λ args. carry_of f g (operation (scan s)) args (carries i)) r)
+  scan_goes_on : (g : ℕ → Outcome) (so_far : ℕ → List Seen) (i a : ℕ) (v : Vertex) (s : Scan) → slice_get vs i ≡ Some v → v.made ≡ operation (scan s) → v.args ≡ a ∷ [] → next_cells vs g so_far i ≡ so_far i ++ cells_in (g a)
+  scan_goes_on g so_far i a v s e q r =
+      ap (λ o. more_cells_at g o (so_far i)) e ∙ (ap (λ m. more_cells g m v.args (so_far i)) q ∙ ap (λ args. more_cells g (operation (scan s)) args (so_far i)) r)
 
   -- the rows of a block and of those behind it
-  pub split_at : (b : Block) (bs : List Block) (carries : ℕ → Seen) (g : ℕ → Outcome) → IsSplit (block_columns (all_rows (b ∷ bs))) (block_columns b) (block_columns (all_rows bs)) carries carries (next_carries vs f g carries) vs f cut g
-  split_at b bs carries g = record {
+  pub split_at : (b : Block) (bs : List Block) (so_far : ℕ → List Seen) (g : ℕ → Outcome) → IsSplit (block_columns (all_rows (b ∷ bs))) (block_columns b) (block_columns (all_rows bs)) so_far so_far (next_cells vs g so_far) vs f cut g
+  split_at b bs so_far g = record {
     columns_split = λ i v s a e c q. (b s a, all_rows bs s a, refl, refl, refl);
     starts = λ i. refl;
-    goes_on = λ i a v s e c q r. scan_goes_on g carries i a v s e q r;
+    goes_on = λ i a v s e c q r. scan_goes_on g so_far i a v s e q r;
   }
 
 -- ---- block by block
 
 module _ (vs : List Vertex) (f : ℕ → Tall) (cut : ℕ → Bool) (P : ℕ → Type 0) (ordered : IsOrdered vs) (can : AreCut f cut vs) (numbered : AreNumbered vs) (work : IsCutWork vs cut P) where
   -- by row numbers: the same value's fault behind the block doesn't precede the one in the block
-  pub in_order : (b : Block) (bs : List Block) (carries carries_rest : ℕ → Seen) (g k : ℕ → Outcome) → IsOver (block_columns b) carries vs f cut g → IsOver (block_columns (all_rows bs)) carries_rest vs f cut k → (m : ℕ) → RowsBelow m b → RowsFrom m (all_rows bs)
+  pub in_order : (b : Block) (bs : List Block) (so_far so_far_rest : ℕ → List Seen) (g k : ℕ → Outcome) → IsOver (block_columns b) so_far vs f cut g → IsOver (block_columns (all_rows bs)) so_far_rest vs f cut k → (m : ℕ) → RowsBelow m b → RowsFrom m (all_rows bs)
       → (i : ℕ) (x y : Fault) → P i → own_in vs (value_over f g) i ≡ Some x → own_in vs (value_over f k) i ≡ Some y → precedes y x ≡ false
-  in_order b bs carries carries_rest g k over_block over_rest m before from i x y p seen later =
+  in_order b bs so_far so_far_rest g k over_block over_rest m before from i x y p seen later =
       let c : cut i ≡ true = (work.there i p).0 in
       let u = own_split (value_over f g) (slice_get vs i) i x seen in
       let w = own_split (value_over f k) (slice_get vs i) i y later in
@@ -180,40 +169,42 @@ module _ (columns : Columns) (vs : List Vertex) (f : ℕ → Tall) (cut : ℕ �
   abbrev W : ℕ → Outcome
   W i = (f i).outcome
 
-  whole_own : (c : Seen) (at : At) (op : Op) (args : List ℕ) → ((s : Scan) (a : ℕ) → op ≡ scan s → args ≡ a ∷ [] → c ≡ scan_start s (kind_of (f a).shape.class)) → own_outcome at op (map f args) ≡ own_over c at op (map (value_over f W) args)
-  whole_own c at (scan s) [] start = refl
-  whole_own c at (scan s) (a ∷ []) start =
-      ap (row_by_row at) (sym (scan_begins s (kind_of (f a).shape.class) (rows_in (f a).outcome)) ∙ ap (λ k. scanned_from s (kind_of (f a).shape.class) k (rows_in (f a).outcome)) (sym (start s a refl refl)))
-  whole_own c at (scan s) (a ∷ b ∷ args) start = refl
-  whole_own c at (constant x) args start = refl
-  whole_own c at (unary op) args start = refl
-  whole_own c at (binary op) args start = refl
-  whole_own c at filter args start = refl
-  whole_own c at (reduce r) args start = refl
-  whole_own c at (head n) args start = refl
-  whole_own c at (tail n) args start = refl
-  whole_own c at distinct args start = refl
-  whole_own c at (group m part) args start = refl
+  -- the cells that each scan goes over are of a kind that it takes
+  abbrev pub ScansTake : Type 0
+  ScansTake = (i a : ℕ) (v : Vertex) (s : Scan) → slice_get vs i ≡ Some v → v.made ≡ operation (scan s) → v.args ≡ a ∷ [] → AllCells (HasScanKind (kind_of (f a).shape.class)) (cells_in (f a).outcome)
 
-  whole_made : (carries : ℕ → Seen) (i : ℕ) (v : Vertex) (m : Made) → slice_get vs i ≡ Some v → v.made ≡ m → ((s : Scan) (a : ℕ) → v.made ≡ operation (scan s) → v.args ≡ a ∷ [] → carries i ≡ scan_start s (kind_of (f a).shape.class))
-      → (f i).outcome ≡ outcome_over columns (carries i) v.at m (map (value_over f W) v.args)
-  whole_made carries i v (stored s a k) e q start = sym (ap (λ (t : Tall). t.outcome) (stored_value columns vs f meaning i v s a k e q))
-  whole_made carries i v (operation op) e q start =
+  whole_own : (at : At) (op : Op) (args : List ℕ) → ((s : Scan) (a : ℕ) → op ≡ scan s → args ≡ a ∷ [] → AllCells (HasScanKind (kind_of (f a).shape.class)) (cells_in (f a).outcome)) → own_outcome at op (map f args) ≡ own_over [] at op (map (value_over f W) args)
+  whole_own at (scan s) [] take = refl
+  whole_own at (scan s) (a ∷ []) take = ap (row_by_row at) (sym (scan_begins s (kind_of (f a).shape.class) (rows_in (f a).outcome) (take s a refl refl)))
+  whole_own at (scan s) (a ∷ b ∷ args) take = refl
+  whole_own at (constant x) args take = refl
+  whole_own at (unary op) args take = refl
+  whole_own at (binary op) args take = refl
+  whole_own at filter args take = refl
+  whole_own at (reduce r) args take = refl
+  whole_own at (head n) args take = refl
+  whole_own at (tail n) args take = refl
+  whole_own at distinct args take = refl
+  whole_own at (group m part) args take = refl
+
+  whole_made : ScansTake → (i : ℕ) (v : Vertex) (m : Made) → slice_get vs i ≡ Some v → v.made ≡ m → (f i).outcome ≡ outcome_over columns [] v.at m (map (value_over f W) v.args)
+  whole_made take i v (stored s a k) e q = sym (ap (λ (t : Tall). t.outcome) (stored_value columns vs f meaning i v s a k e q))
+  whole_made take i v (operation op) e q =
       tall_outcome v.at op (map f v.args) (f i) (made_value columns vs f meaning i v op e q)
-      ∙ ap (unless (least_fault (map fault_of (outcomes (map f v.args))))) (whole_own (carries i) v.at op v.args (λ s a r t. start s a (q ∙ ap operation r) t))
+      ∙ ap (unless (least_fault (map fault_of (outcomes (map f v.args))))) (whole_own v.at op v.args (λ s a r t. take i a v s e (q ∙ ap operation r) t))
 
-  pub whole_over : (carries : ℕ → Seen) → ((i a : ℕ) (v : Vertex) (s : Scan) → slice_get vs i ≡ Some v → v.made ≡ operation (scan s) → v.args ≡ a ∷ [] → carries i ≡ scan_start s (kind_of (f a).shape.class)) → IsOver columns carries vs f cut W
-  whole_over carries start = record {
-    made = λ i v e c. whole_made carries i v v.made e refl (λ s a q r. start i a v s e q r);
+  pub whole_over : ScansTake → IsOver columns no_cells vs f cut W
+  whole_over take = record {
+    made = λ i v e c. whole_made take i v v.made e refl;
     known = λ i n. refl;
   }
 
-stored_same : (columns others : Columns) (m : Made) (c : Seen) (v : Vertex) (xs : List Tall) → ((s a : ℕ) → IsVariable m s a → columns s a ≡ others s a) → outcome_over columns c v.at m xs ≡ outcome_over others c v.at m xs
+stored_same : (columns others : Columns) (m : Made) (c : List Seen) (v : Vertex) (xs : List Tall) → ((s a : ℕ) → IsVariable m s a → columns s a ≡ others s a) → outcome_over columns c v.at m xs ≡ outcome_over others c v.at m xs
 stored_same columns others (stored s a k) c v xs same = same s a (refl, refl)
 stored_same columns others (operation op) c v xs same = refl
 
-pub over_others : (columns others : Columns) (carries : ℕ → Seen) (vs : List Vertex) (f : ℕ → Tall) (cut : ℕ → Bool) (h : ℕ → Outcome) → ((i : ℕ) (v : Vertex) (s a : ℕ) → slice_get vs i ≡ Some v → cut i ≡ true → IsVariable v.made s a → columns s a ≡ others s a) → IsOver columns carries vs f cut h → IsOver others carries vs f cut h
-over_others columns others carries vs f cut h same over = record {
-  made = λ i v e c. over.made i v e c ∙ stored_same columns others v.made (carries i) v (map (value_over f h) v.args) (λ s a q. same i v s a e c q);
+pub over_others : (columns others : Columns) (so_far : ℕ → List Seen) (vs : List Vertex) (f : ℕ → Tall) (cut : ℕ → Bool) (h : ℕ → Outcome) → ((i : ℕ) (v : Vertex) (s a : ℕ) → slice_get vs i ≡ Some v → cut i ≡ true → IsVariable v.made s a → columns s a ≡ others s a) → IsOver columns so_far vs f cut h → IsOver others so_far vs f cut h
+over_others columns others so_far vs f cut h same over = record {
+  made = λ i v e c. over.made i v e c ∙ stored_same columns others v.made (so_far i) v (map (value_over f h) v.args) (λ s a q. same i v s a e c q);
   known = over.known;
 }

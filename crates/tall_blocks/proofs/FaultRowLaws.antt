@@ -1,33 +1,28 @@
 -- A value over some rows has numbers of these rows alone, and so has its fault: whatever holds of the numbers of the
 -- variables' rows holds of its own.
-use Rattle.std.specs.Prelude.{◌≡◌, refl, ℤ, ℕ, zero, suc, ◌<◌, ◌+◌, if◌then◌else◌, Bool, true, false, Option, None, Some, Result, Ok, Err, List, [], ◌∷◌, map, slice_get}
+use Rattle.std.specs.Prelude.{◌≡◌, refl, ℕ, zero, suc, ◌<◌, ◌+◌, if◌then◌else◌, Bool, true, false, Option, None, Some, Result, Ok, Err, List, [], ◌∷◌, ◌++◌, map, slice_get}
 use Rattle.std.proofs.Common.{ap, sym, subst, ◌∙◌, arith, inl, inr}
 use Rattle.std.specs.declared.cmp.Ordering.{Ordering}
 use Rattle.std.specs.Ordering.{nat_cmp, is_lt, ordering_then}
 use Rattle.std.proofs.lemmas.Bool.Decides.{nat_tests}
-use Rattle.tall_value.specs.declared.class.IntKind.{IntKind}
 use Rattle.tall_value.specs.declared.class.Kind.{Kind}
-use Rattle.tall_value.specs.declared.class.Kind.TheVariants.{Integer, Logical, Double, Text}
 use Rattle.tall_value.specs.declared.faults.CellFault.{CellFault}
 use Rattle.tall_value.specs.declared.functions.Scan.{Scan}
-use Rattle.tall_value.specs.declared.functions.Scan.TheVariants.{CumSum, CumMin, CumMax}
 use Rattle.tall_value.specs.declared.operators.Binary.{Binary}
 use Rattle.tall_value.specs.declared.operators.Unary.{Unary}
-use Rattle.tall_value.specs.Cells.{Seen, amount}
-use Rattle.tall_value.specs.CellOperators.{unary_cell, binary_cell, double_cell}
+use Rattle.tall_value.specs.Cells.{Seen}
+use Rattle.tall_value.specs.CellOperators.{unary_cell, binary_cell}
 use Rattle.tall_value.specs.Classes.{kind_of}
 use Rattle.tall_value.specs.Elementwise.{in_front, at_row, each_row, each_pair, beside}
 use Rattle.tall_value.specs.FaultOrder.{row_place}
 use Rattle.tall_value.specs.Filters.{is_true, kept}
-use Rattle.tall_value.specs.Reductions.{lesser, greater}
-use Rattle.tall_value.specs.Scans.{added, integer_sums, double_sums, better, bests}
-use Rattle.tall_int.specs.Doubles.{whole_add}
 use Rattle.tall_semantics.specs.Operations.{Op, constant, unary, binary, filter, reduce, scan, head, tail, distinct, group, Made, stored, operation}
 use Rattle.tall_semantics.specs.Faults.{At, Fault, least_fault, precedes}
 use Rattle.tall_semantics.specs.Outcomes.{Outcome, rows, scalar, fault, fault_of, rows_in, cells_in, row_by_row, elementwise_one, elementwise_two}
 use Rattle.tall_semantics.specs.Talls.{Tall, Columns, outcomes, unless}
 use Rattle.tall_semantics.specs.Deferred.{Vertex, IsOrdered, IsAmong, fault_in, least_in}
-use Rattle.tall_blocks.specs.Carries.{Rows, RowsOrFault, scanned_from, sums_from, or_zero}
+use Rattle.tall_semantics.specs.ScanCarries.{fold_of}
+use Rattle.tall_blocks.specs.Carries.{Rows, RowsOrFault, or_inexact, scanned_behind}
 use Rattle.tall_blocks.specs.Blocks.{IsVariable, AllNumbers}
 use Rattle.tall_blocks.specs.Cut.{CanBeCut, AreCut}
 use Rattle.tall_blocks.specs.ValuesOver.{own_over, outcome_over, value_over, IsOver}
@@ -76,30 +71,11 @@ module _ (Q : ℕ → Type 0) where
   kept_holds (r ∷ rs) [] h = tt
   kept_holds (r ∷ rs) (m ∷ ms) h = if_holds (is_true m) r (kept rs ms) h.0 (kept_holds rs ms h.1)
 
-  integers_hold : (k : IntKind) (sum : ℤ) (rs : Rows) → AllNumbers Q rs → AllNumbers Q (integer_sums k sum rs)
-  integers_hold k sum [] h = tt
-  integers_hold k sum (r ∷ rs) h = (h.0, integers_hold k (added k sum (amount r.1)) rs h.1)
-
-  doubles_hold : (sum : Option ℤ) (rs : Rows) → AllNumbers Q rs → HoldIn (double_sums sum rs)
-  doubles_hold sum [] h = tt
-  doubles_hold sum (r ∷ rs) h =
-      let next : Option ℤ = elim (whole_add sum (amount r.1)) [ Ok d ↦ d | Err e ↦ None ] in
-      at_holds r.0 (double_cell (whole_add sum (amount r.1))) (double_sums next rs) h.0 (doubles_hold next rs h.1)
-
-  bests_hold : (g : Seen → Seen → Seen) (best : Seen) (rs : Rows) → AllNumbers Q rs → AllNumbers Q (bests g best rs)
-  bests_hold g best [] h = tt
-  bests_hold g best (r ∷ rs) h = (h.0, bests_hold g (better g best r.1) rs h.1)
-
-  sums_hold : (a : Kind) (c : Seen) (rs : Rows) → AllNumbers Q rs → HoldIn (sums_from a c rs)
-  sums_hold (Integer k) c rs h = integers_hold k (or_zero (amount c)) rs h
-  sums_hold Logical c rs h = doubles_hold (amount c) rs h
-  sums_hold Double c rs h = doubles_hold (amount c) rs h
-  sums_hold Text c rs h = doubles_hold (amount c) rs h
-
-  scans_hold : (s : Scan) (a : Kind) (c : Seen) (rs : Rows) → AllNumbers Q rs → HoldIn (scanned_from s a c rs)
-  scans_hold CumSum a c rs h = sums_hold a c rs h
-  scans_hold CumMin a c rs h = bests_hold lesser c rs h
-  scans_hold CumMax a c rs h = bests_hold greater c rs h
+  scans_hold : (s : Scan) (a : Kind) (before : List Seen) (rs : Rows) → AllNumbers Q rs → HoldIn (scanned_behind s a before rs)
+  scans_hold s a before [] h = tt
+  scans_hold s a before (r ∷ rs) h =
+      let next : List Seen = before ++ r.1 ∷ [] in
+      at_holds r.0 (or_inexact (fold_of s a next)) (scanned_behind s a next rs) h.0 (scans_hold s a next rs h.1)
 
   rows_of_holds : (x : Outcome) → Holds x → AllNumbers Q (rows_in x)
   rows_of_holds (rows rs) h = h
@@ -128,9 +104,9 @@ module _ (Q : ℕ → Type 0) where
   right_holds at op (scalar c) d h = absurd h
   right_holds at op (fault f) d h = h
 
-  module _ {columns : Columns} {carries : ℕ → Seen} {vs : List Vertex} {f : ℕ → Tall} {cut : ℕ → Bool} {h : ℕ → Outcome} (over : IsOver columns carries vs f cut h) (can : AreCut f cut vs) (ordered : IsOrdered vs)
+  module _ {columns : Columns} {so_far : ℕ → List Seen} {vs : List Vertex} {f : ℕ → Tall} {cut : ℕ → Bool} {h : ℕ → Outcome} (over : IsOver columns so_far vs f cut h) (can : AreCut f cut vs) (ordered : IsOrdered vs)
       (stored_hold : (i : ℕ) (v : Vertex) (s a : ℕ) → slice_get vs i ≡ Some v → cut i ≡ true → IsVariable v.made s a → Holds (columns s a)) where
-    own_holds : (c : Seen) (at : At) (op : Op) (args : List ℕ) → CanBeCut f cut (operation op) args → ((a : ℕ) → IsAmong args a → cut a ≡ true → Holds (h a)) → Holds (own_over c at op (map (value_over f h) args))
+    own_holds : (c : List Seen) (at : At) (op : Op) (args : List ℕ) → CanBeCut f cut (operation op) args → ((a : ℕ) → IsAmong args a → cut a ≡ true → Holds (h a)) → Holds (own_over c at op (map (value_over f h) args))
     own_holds c at (constant x) args k g = absurd k
     own_holds c at (unary op) [] k g = absurd k
     own_holds c at (unary op) (a ∷ []) k g = one_holds at op (h a) (g a (inl refl) k)
@@ -151,7 +127,7 @@ module _ (Q : ℕ → Type 0) where
     own_holds c at filter (a ∷ m ∷ d ∷ args) k g = absurd k
     own_holds c at (scan s) [] k g = absurd k
     own_holds c at (scan s) (a ∷ []) k g =
-        row_holds at (scanned_from s (kind_of (f a).shape.class) c (rows_in (h a))) (scans_hold s (kind_of (f a).shape.class) c (rows_in (h a)) (rows_of_holds (h a) (g a (inl refl) k)))
+        row_holds at (scanned_behind s (kind_of (f a).shape.class) c (rows_in (h a))) (scans_hold s (kind_of (f a).shape.class) c (rows_in (h a)) (rows_of_holds (h a) (g a (inl refl) k)))
     own_holds c at (scan s) (a ∷ b ∷ args) k g = absurd k
     own_holds c at (reduce r) args k g = absurd k
     own_holds c at (head n) args k g = absurd k
@@ -170,13 +146,13 @@ module _ (Q : ℕ → Type 0) where
 
     made_holds : (i : ℕ) (v : Vertex) (m : Made) → slice_get vs i ≡ Some v → cut i ≡ true → v.made ≡ m → ((a : ℕ) → IsAmong v.args a → cut a ≡ true → Holds (h a)) → Holds (h i)
     made_holds i v (stored s a k) e c q g =
-        let w : h i ≡ columns s a = subst (λ m. h i ≡ outcome_over columns (carries i) v.at m (map (value_over f h) v.args)) q (over.made i v e c) in
+        let w : h i ≡ columns s a = subst (λ m. h i ≡ outcome_over columns (so_far i) v.at m (map (value_over f h) v.args)) q (over.made i v e c) in
         subst Holds (sym w) (stored_hold i v s a e c (subst (λ m. IsVariable m s a) (sym q) (refl, refl)))
     made_holds i v (operation op) e c q g = elim (none_or_some (least_in (value_over f h) v.args)) [
-      | inl none ↦ subst Holds (sym (own_of over can i v op e c q none)) (own_holds (carries i) v.at op v.args (subst (λ m. CanBeCut f cut m v.args) q (can i v e c)) g)
+      | inl none ↦ subst Holds (sym (own_of over can i v op e c q none)) (own_holds (so_far i) v.at op v.args (subst (λ m. CanBeCut f cut m v.args) q (can i v e c)) g)
       | inr some ↦
           let w = least_one (fault_in (value_over f h)) v.args some.0 some.1 in
-          let y : h i ≡ fault some.0 = made_is over can i v op e c q ∙ unless_fault (least_fault (map fault_of (outcomes (map (value_over f h) v.args)))) some.0 (own_over (carries i) v.at op (map (value_over f h) v.args)) (ap least_fault (faults_of_values (value_over f h) v.args) ∙ some.1) in
+          let y : h i ≡ fault some.0 = made_is over can i v op e c q ∙ unless_fault (least_fault (map fault_of (outcomes (map (value_over f h) v.args)))) some.0 (own_over (so_far i) v.at op (map (value_over f h) v.args)) (ap least_fault (faults_of_values (value_over f h) v.args) ∙ some.1) in
           elim (true_or_false (cut w.0)) [
             | inl is_cut ↦ (let z : h w.0 ≡ fault some.0 = fault_is (h w.0) some.0 w.2 in subst Holds (z ∙ sym y) (g w.0 w.1 is_cut))
             | inr not_cut ↦ (let z : fault_of (h w.0) ≡ None = known_none over can i w.0 v e c w.1 not_cut in let u : fault_of (h w.0) ≡ Some some.0 = w.2 in absurd (cc))

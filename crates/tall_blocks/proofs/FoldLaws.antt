@@ -74,10 +74,10 @@ module _ (test : Seen → Seen → Bool) (both : (c d e : Seen) → test c d ≡
   better_assoc : (c d e : Seen) → better (better c d) e ≡ better c (better d e)
   better_assoc c d e = three c d e (test c d) (test d e) refl refl
 
-greater_assoc : (c d e : Seen) → greater (greater c d) e ≡ greater c (greater d e)
+pub greater_assoc : (c d e : Seen) → greater (greater c d) e ≡ greater c (greater d e)
 greater_assoc = better_assoc (λ c d. is_lt (cell_order c d)) less_all (λ c d e p q. not_less e d c q p)
 
-lesser_assoc : (c d e : Seen) → lesser (lesser c d) e ≡ lesser c (lesser d e)
+pub lesser_assoc : (c d e : Seen) → lesser (lesser c d) e ≡ lesser c (lesser d e)
 lesser_assoc = better_assoc (λ c d. is_lt (cell_order d c)) (λ c d e p q. less_all e d c q p) not_less
 
 module _ (f : Seen → Seen → Seen) (assoc : (c d e : Seen) → f (f c d) e ≡ f c (f d e)) where
@@ -89,7 +89,7 @@ module _ (f : Seen → Seen → Seen) (assoc : (c d e : Seen) → f (f c d) e �
   fold_first c d [] = refl
   fold_first c d (x ∷ xs) = ap (λ y. fold f y xs) (assoc c d x) ∙ fold_first c (f d x) xs
 
-  folded_append : (xs ys : List Seen) → folded f (xs ++ ys) ≡ best_joined f (folded f xs) (folded f ys)
+  pub folded_append : (xs ys : List Seen) → folded f (xs ++ ys) ≡ best_joined f (folded f xs) (folded f ys)
   folded_append [] ys = refl
   folded_append (x ∷ xs) [] = ap Some (fold_append x xs [])
   folded_append (x ∷ xs) (y ∷ ys) = ap Some (fold_append x xs (y ∷ ys) ∙ fold_first (fold f x xs) y ys)
@@ -102,7 +102,7 @@ module _ (f : Seen → Seen → Seen) (assoc : (c d e : Seen) → f (f c d) e �
 
 -- ---- folds whose parts join
 
-total_append : (xs ys : List ℤ) → total (xs ++ ys) ≡ total xs +ℤ total ys
+pub total_append : (xs ys : List ℤ) → total (xs ++ ys) ≡ total xs +ℤ total ys
 total_append [] ys = omega (arith, ints)
 total_append (x ∷ xs) ys = (let h = total_append xs ys in omega (arith, ints, h))
 
@@ -142,7 +142,7 @@ joined_start (number_of test) s = (let e : 0 + s ≡ s = omega (arith) in e)
 
 -- ---- all folds
 
-clamped_append : (low high sum : ℤ) (xs ys : List ℤ) → clamped_sum low high sum (xs ++ ys) ≡ clamped_sum low high (clamped_sum low high sum xs) ys
+pub clamped_append : (low high sum : ℤ) (xs ys : List ℤ) → clamped_sum low high sum (xs ++ ys) ≡ clamped_sum low high (clamped_sum low high sum xs) ys
 clamped_append low high sum [] ys = refl
 clamped_append low high sum (x ∷ xs) ys = clamped_append low high (nearest low high (sum +ℤ x)) xs ys
 
@@ -155,7 +155,7 @@ pub used_append : (passes_nan : Bool) (cs ds : List Seen) → used passes_nan (c
 used_append true cs ds = filter-append is_present cs ds
 used_append false cs ds = refl
 
-joined_nothing : (p : PartFold) (s : Value p) → joined p s (value_of p []) ≡ s
+pub joined_nothing : (p : PartFold) (s : Value p) → joined p s (value_of p []) ≡ s
 joined_nothing exact_sum s = ap (λ b. (b, s.1 +ℤ pos 0)) (or_false s.0) ∙ ap (λ n. (s.0, n)) (let e : s.1 +ℤ pos 0 ≡ s.1 = omega (arith, ints) in e)
   where
     or_false : (a : Bool) → (a || false) ≡ a

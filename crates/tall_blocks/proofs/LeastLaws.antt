@@ -97,9 +97,9 @@ beaten (Some y) x z m g p = (let q : precedes x y ≡ false = not_before y z x m
 
 -- ---- a block and the rows behind it
 
-module _ {columns block rest : Columns} {carries carries_block carries_rest : ℕ → Seen} {vs : List Vertex} {f : ℕ → Tall} {cut : ℕ → Bool} {h g k : ℕ → Outcome}
-    (over : IsOver columns carries vs f cut h) (over_block : IsOver block carries_block vs f cut g) (over_rest : IsOver rest carries_rest vs f cut k)
-    (ordered : IsOrdered vs) (can : AreCut f cut vs) (aligned : AreAligned vs cut g) (split : IsSplit columns block rest carries carries_block carries_rest vs f cut g)
+module _ {columns block rest : Columns} {so_far so_far_block so_far_rest : ℕ → List Seen} {vs : List Vertex} {f : ℕ → Tall} {cut : ℕ → Bool} {h g k : ℕ → Outcome}
+    (over : IsOver columns so_far vs f cut h) (over_block : IsOver block so_far_block vs f cut g) (over_rest : IsOver rest so_far_rest vs f cut k)
+    (ordered : IsOrdered vs) (can : AreCut f cut vs) (aligned : AreAligned vs cut g) (split : IsSplit columns block rest so_far so_far_block so_far_rest vs f cut g)
     (numbered : AreNumbered vs) where
   abbrev H : ℕ → Tall
   H = value_over f h

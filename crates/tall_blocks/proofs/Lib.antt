@@ -1,4 +1,6 @@
 pub mod Choices
+pub mod CarryLaws
+pub mod CarryPlaceLaws
 pub mod RowLaws
 pub mod OperationLaws
 pub mod SeenLaws

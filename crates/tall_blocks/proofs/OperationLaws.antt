@@ -16,7 +16,7 @@ use Rattle.tall_semantics.specs.Faults.{At}
 use Rattle.tall_semantics.specs.Outcomes.{Outcome, rows, scalar, fault, rows_in, cells_in, row_by_row, elementwise_one, elementwise_two}
 use Rattle.tall_semantics.specs.Talls.{Tall}
 use Rattle.tall_semantics.specs.Deferred.{IsAmong}
-use Rattle.tall_blocks.specs.Carries.{Rows, RowsOrFault, rows_joined, scanned_from, carry_after}
+use Rattle.tall_blocks.specs.Carries.{Rows, RowsOrFault, rows_joined, scanned_behind}
 use Rattle.tall_blocks.specs.Cut.{CanBeCut}
 use Rattle.tall_blocks.specs.ValuesOver.{own_over, value_over, AreParts}
 use Rattle.tall_blocks.proofs.RowLaws.{outcomes_joined, by_row, each_row_then, each_pair_then, kept_then, scan_then}
@@ -83,18 +83,18 @@ module _ (f : ℕ → Tall) (cut : ℕ → Bool) (h g k : ℕ → Outcome) where
   abbrev EvenAt : List ℕ → Type 0
   EvenAt args = (a b : ℕ) (rs ms : Rows) → args ≡ a ∷ b ∷ [] → cut a ≡ true → cut b ≡ true → g a ≡ rows rs → g b ≡ rows ms → length rs ≡ length ms
 
-  abbrev CarryAt : Seen → Seen → Op → List ℕ → Type 0
-  CarryAt c d op args = (s : Scan) (a : ℕ) → op ≡ scan s → args ≡ a ∷ [] → d ≡ carry_after s (kind_of (f a).shape.class) c (rows_in (g a))
+  abbrev CarryAt : List Seen → List Seen → Op → List ℕ → Type 0
+  CarryAt c d op args = (s : Scan) (a : ℕ) → op ≡ scan s → args ≡ a ∷ [] → d ≡ c ++ cells_in (g a)
 
-  scan_joined : (c d : Seen) (at : At) (s : Scan) (a : ℕ) → PartsAt a → d ≡ carry_after s (kind_of (f a).shape.class) c (rows_in (g a))
-      → Joined (row_by_row at (scanned_from s (kind_of (f a).shape.class) c (rows_in (h a)))) (row_by_row at (scanned_from s (kind_of (f a).shape.class) c (rows_in (g a)))) (row_by_row at (scanned_from s (kind_of (f a).shape.class) d (rows_in (k a))))
+  scan_joined : (c d : List Seen) (at : At) (s : Scan) (a : ℕ) → PartsAt a → d ≡ c ++ cells_in (g a)
+      → Joined (row_by_row at (scanned_behind s (kind_of (f a).shape.class) c (rows_in (h a)))) (row_by_row at (scanned_behind s (kind_of (f a).shape.class) c (rows_in (g a)))) (row_by_row at (scanned_behind s (kind_of (f a).shape.class) d (rows_in (k a))))
   scan_joined c d at s a p e =
       let kind = kind_of (f a).shape.class in
-      join_one (λ o. row_by_row at (scanned_from s kind c (rows_in o))) (λ o. row_by_row at (scanned_from s kind c (rows_in o))) (λ o. row_by_row at (scanned_from s kind d (rows_in o))) (h a) (g a) (k a)
+      join_one (λ o. row_by_row at (scanned_behind s kind c (rows_in o))) (λ o. row_by_row at (scanned_behind s kind c (rows_in o))) (λ o. row_by_row at (scanned_behind s kind d (rows_in o))) (h a) (g a) (k a)
       (λ rs ss q.
-      let n : d ≡ carry_after s kind c rs = e ∙ ap (λ o. carry_after s kind c (rows_in o)) q in
-      join_rows at (scanned_from s kind c (rs ++ ss)) (scanned_from s kind c rs) (scanned_from s kind d ss)
-      (scan_then s kind c rs ss ∙ ap (λ o. rows_joined (scanned_from s kind c rs) (scanned_from s kind o ss)) (sym n)))
+      let n : d ≡ c ++ cells rs = e ∙ ap (λ o. c ++ cells_in o) q in
+      join_rows at (scanned_behind s kind c (rs ++ ss)) (scanned_behind s kind c rs) (scanned_behind s kind d ss)
+      (scan_then s kind c rs ss ∙ ap (λ o. rows_joined (scanned_behind s kind c rs) (scanned_behind s kind o ss)) (sym n)))
       p
 
   binary_joined : (at : At) (op : Binary) (a b : ℕ) → CanBeCut f cut (operation (binary op)) (a ∷ b ∷ [])
@@ -118,7 +118,7 @@ module _ (f : ℕ → Tall) (cut : ℕ → Bool) (h g k : ℕ → Outcome) where
     ]
   ]
 
-  pub own_joined : (c d : Seen) (at : At) (op : Op) (args : List ℕ) → CanBeCut f cut (operation op) args
+  pub own_joined : (c d : List Seen) (at : At) (op : Op) (args : List ℕ) → CanBeCut f cut (operation op) args
       → ((i : ℕ) → IsAmong args i → cut i ≡ true → PartsAt i) → ((i : ℕ) → cut i ≡ false → SameAt i) → EvenAt args → CarryAt c d op args
       → Joined (own_over c at op (map (value_over f h) args)) (own_over c at op (map (value_over f g) args)) (own_over d at op (map (value_over f k) args))
   own_joined c d at (constant x) args can parts same aligned carry = absurd can

@@ -1,21 +1,15 @@
 -- What is counted from 0 over a block's cells is, with the numbers of the rows, what is told over the rows.
-use Rattle.std.specs.Prelude.{◌≡◌, refl, ℤ, ℕ, zero, suc, ◌<◌, ◌≤◌, ◌+◌, ◌-◌, if◌then◌else◌, Bool, true, false, Option, None, Result, Ok, Err, List, [], ◌∷◌, length}
+use Rattle.std.specs.Prelude.{◌≡◌, refl, ℕ, zero, suc, ◌<◌, ◌≤◌, ◌+◌, ◌-◌, if◌then◌else◌, Bool, true, false, Result, Ok, Err, List, [], ◌∷◌, ◌++◌, length}
 use Rattle.std.proofs.Common.{ap, sym, ◌∙◌, arith}
-use Rattle.tall_int.specs.Doubles.{whole_add}
-use Rattle.tall_value.specs.declared.class.IntKind.{IntKind}
 use Rattle.tall_value.specs.declared.class.Kind.{Kind}
-use Rattle.tall_value.specs.declared.class.Kind.TheVariants.{Integer, Logical, Double, Text}
 use Rattle.tall_value.specs.declared.faults.CellFault.{CellFault}
 use Rattle.tall_value.specs.declared.functions.Scan.{Scan}
-use Rattle.tall_value.specs.declared.functions.Scan.TheVariants.{CumSum, CumMin, CumMax}
-use Rattle.tall_value.specs.Cells.{Seen, whole, amount}
-use Rattle.tall_value.specs.CellOperators.{double_cell}
+use Rattle.tall_value.specs.Cells.{Seen}
 use Rattle.tall_value.specs.Columns.{cells, numbered}
 use Rattle.tall_value.specs.Elementwise.{in_front, at_row, each_row, each_pair}
 use Rattle.tall_value.specs.Filters.{is_true, kept}
-use Rattle.tall_value.specs.Reductions.{lesser, greater}
-use Rattle.tall_value.specs.Scans.{added, integer_sums, double_sums, better, bests}
-use Rattle.tall_blocks.specs.Carries.{Rows, RowsOrFault, or_zero, sums_from, scanned_from}
+use Rattle.tall_semantics.specs.ScanCarries.{fold_of}
+use Rattle.tall_blocks.specs.Carries.{Rows, RowsOrFault, or_inexact, scanned_behind}
 use Rattle.tall_blocks.specs.RowPlaces.{number_at, renumbered, with_numbers, next_place, kept_place}
 
 -- y is x, counted from n, with the numbers of the rows
@@ -46,19 +40,11 @@ pair_from g n [] ss = refl
 pair_from g n (r ∷ rs) [] = refl
 pair_from g n (r ∷ rs) (s ∷ ss) = one_row n (g r.1 s.1) r rs (each_pair g (numbered (n + 1) (cells rs)) (numbered (n + 1) (cells ss))) (each_pair g rs ss) (pair_from g (n + 1) rs ss)
 
-doubles_from : (sum : Option ℤ) (n : ℕ) (rs : Rows) → IsRenumbered n rs (double_sums sum (numbered n (cells rs))) (double_sums sum rs)
-doubles_from sum n [] = refl
-doubles_from sum n (r ∷ rs) =
-    let next : Option ℤ = elim (whole_add sum (amount r.1)) [ Ok d ↦ d | Err e ↦ None ] in
-    one_row n (double_cell (whole_add sum (amount r.1))) r rs (double_sums next (numbered (n + 1) (cells rs))) (double_sums next rs) (doubles_from next (n + 1) rs)
-
-integers_from : (k : IntKind) (sum : ℤ) (n : ℕ) (rs : Rows) → integer_sums k sum rs ≡ renumbered rs (integer_sums k sum (numbered n (cells rs)))
-integers_from k sum n [] = refl
-integers_from k sum n (r ∷ rs) = (let next : ℤ = added k sum (amount r.1) in ap (λ xs. (r.0, whole k next) ∷ xs) (integers_from k next (n + 1) rs))
-
-bests_from : (f : Seen → Seen → Seen) (best : Seen) (n : ℕ) (rs : Rows) → bests f best rs ≡ renumbered rs (bests f best (numbered n (cells rs)))
-bests_from f best n [] = refl
-bests_from f best n (r ∷ rs) = (let next : Seen = better f best r.1 in ap (λ xs. (r.0, next) ∷ xs) (bests_from f next (n + 1) rs))
+scan_from : (s : Scan) (a : Kind) (before : List Seen) (n : ℕ) (rs : Rows) → IsRenumbered n rs (scanned_behind s a before (numbered n (cells rs))) (scanned_behind s a before rs)
+scan_from s a before n [] = refl
+scan_from s a before n (r ∷ rs) =
+    let next : List Seen = before ++ r.1 ∷ [] in
+    one_row n (or_inexact (fold_of s a next)) r rs (scanned_behind s a next (numbered (n + 1) (cells rs))) (scanned_behind s a next rs) (scan_from s a next (n + 1) rs)
 
 from_none : (rs : Rows) (x y : RowsOrFault) → IsRenumbered 0 rs x y → y ≡ with_numbers rs x
 from_none rs (Ok others) y h = h
@@ -70,16 +56,8 @@ each_counted g rs = from_none rs (each_row g (numbered 0 (cells rs))) (each_row 
 pub pair_counted : (g : Seen → Seen → Result Seen CellFault) (rs ss : Rows) → each_pair g rs ss ≡ with_numbers rs (each_pair g (numbered 0 (cells rs)) (numbered 0 (cells ss)))
 pair_counted g rs ss = from_none rs (each_pair g (numbered 0 (cells rs)) (numbered 0 (cells ss))) (each_pair g rs ss) (pair_from g 0 rs ss)
 
-sums_counted : (a : Kind) (c : Seen) (rs : Rows) → sums_from a c rs ≡ with_numbers rs (sums_from a c (numbered 0 (cells rs)))
-sums_counted (Integer k) c rs = ap Ok (integers_from k (or_zero (amount c)) 0 rs)
-sums_counted Logical c rs = from_none rs (double_sums (amount c) (numbered 0 (cells rs))) (double_sums (amount c) rs) (doubles_from (amount c) 0 rs)
-sums_counted Double c rs = from_none rs (double_sums (amount c) (numbered 0 (cells rs))) (double_sums (amount c) rs) (doubles_from (amount c) 0 rs)
-sums_counted Text c rs = from_none rs (double_sums (amount c) (numbered 0 (cells rs))) (double_sums (amount c) rs) (doubles_from (amount c) 0 rs)
-
-pub scan_counted : (s : Scan) (a : Kind) (c : Seen) (rs : Rows) → scanned_from s a c rs ≡ with_numbers rs (scanned_from s a c (numbered 0 (cells rs)))
-scan_counted CumSum a c rs = sums_counted a c rs
-scan_counted CumMin a c rs = ap Ok (bests_from lesser c 0 rs)
-scan_counted CumMax a c rs = ap Ok (bests_from greater c 0 rs)
+pub scan_counted : (s : Scan) (a : Kind) (before : List Seen) (rs : Rows) → scanned_behind s a before rs ≡ with_numbers rs (scanned_behind s a before (numbered 0 (cells rs)))
+scan_counted s a before rs = from_none rs (scanned_behind s a before (numbered 0 (cells rs))) (scanned_behind s a before rs) (scan_from s a before 0 rs)
 
 pub renumbered_cells : (rs others : Rows) → length others ≡ length rs → cells (renumbered rs others) ≡ cells others
 renumbered_cells [] [] e = refl

@@ -1,16 +1,16 @@
 -- Faults over some rows, and over a block and the rows behind it: a value has none over all these rows exactly where it has
 -- none in the block and none behind it.
-use Rattle.std.specs.Prelude.{◌≡◌, refl, ℕ, zero, suc, ◌<◌, ◌⊎◌, Bool, true, false, Option, None, Some, List, [], ◌∷◌, map, slice_get}
+use Rattle.std.specs.Prelude.{◌≡◌, refl, ℕ, zero, suc, ◌<◌, ◌⊎◌, Bool, true, false, Option, None, Some, List, [], ◌∷◌, ◌++◌, map, slice_get}
 use Rattle.std.proofs.Common.{ap, sym, subst, ◌∙◌, arith, inl, inr}
 use Rattle.tall_value.specs.Cells.{Seen}
 use Rattle.tall_value.specs.Classes.{kind_of}
 use Rattle.tall_value.specs.declared.functions.Scan.{Scan}
 use Rattle.tall_semantics.specs.Operations.{Op, constant, unary, binary, filter, reduce, scan, head, tail, distinct, group, Made, stored, operation}
 use Rattle.tall_semantics.specs.Faults.{At, Fault, earlier, least_fault}
-use Rattle.tall_semantics.specs.Outcomes.{Outcome, rows, scalar, fault, fault_of, rows_in}
+use Rattle.tall_semantics.specs.Outcomes.{Outcome, rows, scalar, fault, fault_of, rows_in, cells_in}
 use Rattle.tall_semantics.specs.Talls.{Tall, Columns, outcomes, unless}
 use Rattle.tall_semantics.specs.Deferred.{Vertex, IsOrdered, IsAmong, DependsOn, itself, through, fault_in, least_in, own_fault, own_at, own_in}
-use Rattle.tall_blocks.specs.Carries.{scanned_from, carry_after}
+use Rattle.tall_blocks.specs.Carries.{scanned_behind}
 use Rattle.tall_blocks.specs.Blocks.{IsVariable}
 use Rattle.tall_blocks.specs.Cut.{IsScalar, CanBeCut, AreCut, AreAligned, IsCutWork}
 use Rattle.tall_blocks.specs.ValuesOver.{own_over, outcome_over, value_over, IsOver, AreParts}
@@ -24,10 +24,10 @@ use Rattle.tall_semantics.proofs.OriginLaws.{none_or_some, get_before, below_amo
 
 -- the variables have the rows of the block and then those behind it, where each scan goes on from its carry; h are the
 -- outcomes over the block
-pub record IsSplit (columns block rest : Columns) (carries carries_block carries_rest : ℕ → Seen) (vs : List Vertex) (f : ℕ → Tall) (cut : ℕ → Bool) (h : ℕ → Outcome) : Type 0 where
+pub record IsSplit (columns block rest : Columns) (so_far so_far_block so_far_rest : ℕ → List Seen) (vs : List Vertex) (f : ℕ → Tall) (cut : ℕ → Bool) (h : ℕ → Outcome) : Type 0 where
   pub columns_split : (i : ℕ) (v : Vertex) (s a : ℕ) → slice_get vs i ≡ Some v → cut i ≡ true → IsVariable v.made s a → AreParts (columns s a) (block s a) (rest s a)
-  pub starts : (i : ℕ) → carries i ≡ carries_block i
-  pub goes_on : (i a : ℕ) (v : Vertex) (s : Scan) → slice_get vs i ≡ Some v → cut i ≡ true → v.made ≡ operation (scan s) → v.args ≡ a ∷ [] → carries_rest i ≡ carry_after s (kind_of (f a).shape.class) (carries_block i) (rows_in (h a))
+  pub starts : (i : ℕ) → so_far i ≡ so_far_block i
+  pub goes_on : (i a : ℕ) (v : Vertex) (s : Scan) → slice_get vs i ≡ Some v → cut i ≡ true → v.made ≡ operation (scan s) → v.args ≡ a ∷ [] → so_far_rest i ≡ so_far_block i ++ cells_in (h a)
 
 -- ---- options of faults
 
@@ -136,9 +136,9 @@ own_split f (Some v) i x h = (let p = own_is (least_in f v.args) (fault_in f i) 
 pub own_made : (f : ℕ → Tall) (o : Option Vertex) (v : Vertex) (i : ℕ) (x : Fault) → o ≡ Some v → least_in f v.args ≡ None → fault_in f i ≡ Some x → own_at f o i ≡ Some x
 own_made f o v i x e n q = ap (λ w. own_at f w i) e ∙ (ap (λ c. own_fault c (fault_in f i)) n ∙ q)
 
-own_over_number : (c : Seen) (at : At) (op : Op) (xs : List Tall) → least_fault (map fault_of (outcomes xs)) ≡ None → HasNumber at (fault_of (own_over c at op xs))
+own_over_number : (c : List Seen) (at : At) (op : Op) (xs : List Tall) → least_fault (map fault_of (outcomes xs)) ≡ None → HasNumber at (fault_of (own_over c at op xs))
 own_over_number c at (scan s) [] n = none_has at
-own_over_number c at (scan s) (x ∷ []) n = rows_number at (scanned_from s (kind_of x.shape.class) c (rows_in x.outcome))
+own_over_number c at (scan s) (x ∷ []) n = rows_number at (scanned_behind s (kind_of x.shape.class) c (rows_in x.outcome))
 own_over_number c at (scan s) (x ∷ y ∷ xs) n = none_has at
 own_over_number c at (constant k) xs n = own_number at (constant k) xs n
 own_over_number c at (unary op) xs n = own_number at (unary op) xs n
@@ -152,14 +152,14 @@ own_over_number c at (group m part) xs n = own_number at (group m part) xs n
 
 -- ---- values over some rows
 
-module _ {columns : Columns} {carries : ℕ → Seen} {vs : List Vertex} {f : ℕ → Tall} {cut : ℕ → Bool} {h : ℕ → Outcome} (over : IsOver columns carries vs f cut h) (can : AreCut f cut vs) where
+module _ {columns : Columns} {so_far : ℕ → List Seen} {vs : List Vertex} {f : ℕ → Tall} {cut : ℕ → Bool} {h : ℕ → Outcome} (over : IsOver columns so_far vs f cut h) (can : AreCut f cut vs) where
   pub made_is : (i : ℕ) (v : Vertex) (op : Op) → slice_get vs i ≡ Some v → cut i ≡ true → v.made ≡ operation op
-      → h i ≡ unless (least_fault (map fault_of (outcomes (map (value_over f h) v.args)))) (own_over (carries i) v.at op (map (value_over f h) v.args))
-  made_is i v op e c q = subst (λ m. h i ≡ outcome_over columns (carries i) v.at m (map (value_over f h) v.args)) q (over.made i v e c)
+      → h i ≡ unless (least_fault (map fault_of (outcomes (map (value_over f h) v.args)))) (own_over (so_far i) v.at op (map (value_over f h) v.args))
+  made_is i v op e c q = subst (λ m. h i ≡ outcome_over columns (so_far i) v.at m (map (value_over f h) v.args)) q (over.made i v e c)
 
-  pub own_of : (i : ℕ) (v : Vertex) (op : Op) → slice_get vs i ≡ Some v → cut i ≡ true → v.made ≡ operation op → least_in (value_over f h) v.args ≡ None → h i ≡ own_over (carries i) v.at op (map (value_over f h) v.args)
+  pub own_of : (i : ℕ) (v : Vertex) (op : Op) → slice_get vs i ≡ Some v → cut i ≡ true → v.made ≡ operation op → least_in (value_over f h) v.args ≡ None → h i ≡ own_over (so_far i) v.at op (map (value_over f h) v.args)
   own_of i v op e c q n =
-      made_is i v op e c q ∙ unless_none (least_fault (map fault_of (outcomes (map (value_over f h) v.args)))) (own_over (carries i) v.at op (map (value_over f h) v.args)) (ap least_fault (faults_of_values (value_over f h) v.args) ∙ n)
+      made_is i v op e c q ∙ unless_none (least_fault (map fault_of (outcomes (map (value_over f h) v.args)))) (own_over (so_far i) v.at op (map (value_over f h) v.args)) (ap least_fault (faults_of_values (value_over f h) v.args) ∙ n)
 
   passed_on : (i : ℕ) (v : Vertex) (m : Made) (y : Fault) → slice_get vs i ≡ Some v → cut i ≡ true → v.made ≡ m → least_in (value_over f h) v.args ≡ Some y → fault_of (h i) ≡ Some y
   passed_on i v (stored s a k) y e c q n =
@@ -167,7 +167,7 @@ module _ {columns : Columns} {carries : ℕ → Seen} {vs : List Vertex} {f : �
       let z : least_in (value_over f h) v.args ≡ None = ap (least_in (value_over f h)) none in
       absurd (cc)
   passed_on i v (operation op) y e c q n =
-      ap fault_of (made_is i v op e c q) ∙ unless_some (least_fault (map fault_of (outcomes (map (value_over f h) v.args)))) y (own_over (carries i) v.at op (map (value_over f h) v.args)) (ap least_fault (faults_of_values (value_over f h) v.args) ∙ n)
+      ap fault_of (made_is i v op e c q) ∙ unless_some (least_fault (map fault_of (outcomes (map (value_over f h) v.args)))) y (own_over (so_far i) v.at op (map (value_over f h) v.args)) (ap least_fault (faults_of_values (value_over f h) v.args) ∙ n)
 
   pub none_args : (i : ℕ) (v : Vertex) → slice_get vs i ≡ Some v → cut i ≡ true → fault_of (h i) ≡ None → least_in (value_over f h) v.args ≡ None
   none_args i v e c n = elim (none_or_some (least_in (value_over f h) v.args)) [
@@ -215,17 +215,17 @@ module _ {columns : Columns} {carries : ℕ → Seen} {vs : List Vertex} {f : �
       → (i : ℕ) (v : Vertex) (m : Made) (x : Fault) → slice_get vs i ≡ Some v → cut i ≡ true → v.made ≡ m → least_in (value_over f h) v.args ≡ None → fault_of (h i) ≡ Some x → x.number ≡ v.at.number
   own_fault_number free i v (stored s a k) x e c q n y =
       let z : fault_of (columns s a) ≡ None = free i v s a e c (subst (λ m. IsVariable m s a) (sym q) (refl, refl)) in
-      let w : h i ≡ columns s a = subst (λ m. h i ≡ outcome_over columns (carries i) v.at m (map (value_over f h) v.args)) q (over.made i v e c) in
+      let w : h i ≡ columns s a = subst (λ m. h i ≡ outcome_over columns (so_far i) v.at m (map (value_over f h) v.args)) q (over.made i v e c) in
       let u : fault_of (columns s a) ≡ Some x = sym (ap fault_of w) ∙ y in
       absurd (cc)
   own_fault_number free i v (operation op) x e c q n y =
-      own_over_number (carries i) v.at op (map (value_over f h) v.args) (ap least_fault (faults_of_values (value_over f h) v.args) ∙ n) x (sym (ap fault_of (own_of i v op e c q n)) ∙ y)
+      own_over_number (so_far i) v.at op (map (value_over f h) v.args) (ap least_fault (faults_of_values (value_over f h) v.args) ∙ n) x (sym (ap fault_of (own_of i v op e c q n)) ∙ y)
 
 -- ---- a block and the rows behind it
 
-module _ {columns block rest : Columns} {carries carries_block carries_rest : ℕ → Seen} {vs : List Vertex} {f : ℕ → Tall} {cut : ℕ → Bool} {h g k : ℕ → Outcome}
-    (over : IsOver columns carries vs f cut h) (over_block : IsOver block carries_block vs f cut g) (over_rest : IsOver rest carries_rest vs f cut k)
-    (ordered : IsOrdered vs) (can : AreCut f cut vs) (aligned : AreAligned vs cut g) (split : IsSplit columns block rest carries carries_block carries_rest vs f cut g) where
+module _ {columns block rest : Columns} {so_far so_far_block so_far_rest : ℕ → List Seen} {vs : List Vertex} {f : ℕ → Tall} {cut : ℕ → Bool} {h g k : ℕ → Outcome}
+    (over : IsOver columns so_far vs f cut h) (over_block : IsOver block so_far_block vs f cut g) (over_rest : IsOver rest so_far_rest vs f cut k)
+    (ordered : IsOrdered vs) (can : AreCut f cut vs) (aligned : AreAligned vs cut g) (split : IsSplit columns block rest so_far so_far_block so_far_rest vs f cut g) where
   abbrev H : ℕ → Tall
   H = value_over f h
 
@@ -253,23 +253,23 @@ module _ {columns block rest : Columns} {carries carries_block carries_rest : �
   pub joined_at : (i : ℕ) (v : Vertex) (op : Op) → slice_get vs i ≡ Some v → cut i ≡ true → v.made ≡ operation op → ((a : ℕ) → IsAmong v.args a → cut a ≡ true → Parts a) → Joined (h i) (g i) (k i)
   joined_at i v op e c q parts =
       let none = operands_none i v e c parts in
-      let a : h i ≡ own_over (carries i) v.at op (map H v.args) = own_of over can i v op e c q (all_none (fault_in H) v.args (λ b m. (none b m).0)) in
-      let b : g i ≡ own_over (carries_block i) v.at op (map G v.args) = own_of over_block can i v op e c q (all_none (fault_in G) v.args (λ b m. (none b m).1)) in
-      let d : k i ≡ own_over (carries_rest i) v.at op (map K v.args) = own_of over_rest can i v op e c q (all_none (fault_in K) v.args (λ b m. (none b m).2)) in
-      let a2 : h i ≡ own_over (carries_block i) v.at op (map H v.args) = a ∙ ap (λ n. own_over n v.at op (map H v.args)) (split.starts i) in
-      let j = own_joined f cut h g k (carries_block i) (carries_rest i) v.at op v.args (subst (λ m. CanBeCut f cut m v.args) q (can i v e c)) parts all_known
+      let a : h i ≡ own_over (so_far i) v.at op (map H v.args) = own_of over can i v op e c q (all_none (fault_in H) v.args (λ b m. (none b m).0)) in
+      let b : g i ≡ own_over (so_far_block i) v.at op (map G v.args) = own_of over_block can i v op e c q (all_none (fault_in G) v.args (λ b m. (none b m).1)) in
+      let d : k i ≡ own_over (so_far_rest i) v.at op (map K v.args) = own_of over_rest can i v op e c q (all_none (fault_in K) v.args (λ b m. (none b m).2)) in
+      let a2 : h i ≡ own_over (so_far_block i) v.at op (map H v.args) = a ∙ ap (λ n. own_over n v.at op (map H v.args)) (split.starts i) in
+      let j = own_joined f cut h g k (so_far_block i) (so_far_rest i) v.at op v.args (subst (λ m. CanBeCut f cut m v.args) q (can i v e c)) parts all_known
       (λ x y rs ms r p s t u. aligned i x y v rs ms e r c p s t u)
       (λ s x r t. split.goes_on i x v s e c (q ∙ ap operation r) t) in
-      let j1 : Joined (h i) (own_over (carries_block i) v.at op (map G v.args)) (own_over (carries_rest i) v.at op (map K v.args)) = subst (λ o. Joined o (own_over (carries_block i) v.at op (map G v.args)) (own_over (carries_rest i) v.at op (map K v.args))) (sym a2) j in
-      let j2 : Joined (h i) (g i) (own_over (carries_rest i) v.at op (map K v.args)) = subst (λ o. Joined (h i) o (own_over (carries_rest i) v.at op (map K v.args))) (sym b) j1 in
+      let j1 : Joined (h i) (own_over (so_far_block i) v.at op (map G v.args)) (own_over (so_far_rest i) v.at op (map K v.args)) = subst (λ o. Joined o (own_over (so_far_block i) v.at op (map G v.args)) (own_over (so_far_rest i) v.at op (map K v.args))) (sym a2) j in
+      let j2 : Joined (h i) (g i) (own_over (so_far_rest i) v.at op (map K v.args)) = subst (λ o. Joined (h i) o (own_over (so_far_rest i) v.at op (map K v.args))) (sym b) j1 in
       subst (λ o. Joined (h i) (g i) o) (sym d) j2
 
   pub stored_parts : (i : ℕ) (v : Vertex) (s a : ℕ) (class : Class) → slice_get vs i ≡ Some v → cut i ≡ true → v.made ≡ stored s a class → Parts i
   stored_parts i v s a class e c q =
       let p = split.columns_split i v s a e c (subst (λ m. IsVariable m s a) (sym q) (refl, refl)) in
-      let x : h i ≡ columns s a = subst (λ m. h i ≡ outcome_over columns (carries i) v.at m (map H v.args)) q (over.made i v e c) in
-      let y : g i ≡ block s a = subst (λ m. g i ≡ outcome_over block (carries_block i) v.at m (map G v.args)) q (over_block.made i v e c) in
-      let z : k i ≡ rest s a = subst (λ m. k i ≡ outcome_over rest (carries_rest i) v.at m (map K v.args)) q (over_rest.made i v e c) in
+      let x : h i ≡ columns s a = subst (λ m. h i ≡ outcome_over columns (so_far i) v.at m (map H v.args)) q (over.made i v e c) in
+      let y : g i ≡ block s a = subst (λ m. g i ≡ outcome_over block (so_far_block i) v.at m (map G v.args)) q (over_block.made i v e c) in
+      let z : k i ≡ rest s a = subst (λ m. k i ≡ outcome_over rest (so_far_rest i) v.at m (map K v.args)) q (over_rest.made i v e c) in
       (p.0, p.1, x ∙ p.2, y ∙ p.3, z ∙ p.4)
 
   -- there is no fault over all these rows, or there is none in the block and none behind it

@@ -1,25 +1,24 @@
 -- Over a block two values of one space have equal row numbers, where neither has a fault; so two operands that are cut have
 -- equally many rows. Values of one space come from the variables of a datastore by operators and scans, which keep the
 -- numbers, and by filters with masks of one tree, which over the block are equal.
-use Rattle.std.specs.Prelude.{◌≡◌, refl, ℕ, zero, suc, ◌<◌, ◌+◌, Bool, true, false, None, Some, List, [], ◌∷◌, length, map, slice_get}
+use Rattle.std.specs.Prelude.{◌≡◌, refl, ℕ, zero, suc, ◌<◌, ◌+◌, Bool, true, false, None, Some, Result, Ok, Err, List, [], ◌∷◌, ◌++◌, length, map, slice_get}
 use Rattle.std.proofs.Common.{ap, sym, subst, ◌∙◌, arith, inl, inr}
 use Rattle.std.proofs.lemmas.List.{length-map}
 use Rattle.tall_value.specs.declared.class.Class.{Class}
 use Rattle.tall_value.specs.declared.functions.Scan.{Scan}
-use Rattle.tall_value.specs.Cells.{Seen, amount}
+use Rattle.tall_value.specs.Cells.{Seen}
 use Rattle.tall_value.specs.Classes.{kind_of}
 use Rattle.tall_semantics.specs.Operations.{Op, constant, unary, binary, filter, reduce, scan, head, tail, distinct, group, Made, stored, operation, Tree, leaf}
 use Rattle.tall_value.specs.declared.class.Kind.{Kind}
-use Rattle.tall_value.specs.declared.class.Kind.TheVariants.{Integer, Logical, Double, Text}
-use Rattle.tall_value.specs.declared.functions.Scan.TheVariants.{CumSum, CumMin, CumMax}
+use Rattle.tall_value.specs.declared.faults.CellFault.{CellFault}
 use Rattle.tall_value.specs.declared.operators.Binary.{Binary}
 use Rattle.tall_value.specs.CellOperators.{binary_cell}
-use Rattle.tall_value.specs.Elementwise.{binary_rows, scalar_rows, beside}
+use Rattle.tall_value.specs.Elementwise.{at_row, binary_rows, scalar_rows, beside}
 use Rattle.tall_value.specs.Filters as filters
-use Rattle.tall_value.specs.Reductions.{lesser, greater, or_fault}
-use Rattle.tall_value.specs.Scans.{integer_sums, bests}
+use Rattle.tall_value.specs.Reductions.{or_fault}
+use Rattle.tall_semantics.specs.ScanCarries.{fold_of}
 use Rattle.tall_semantics.specs.Equality.{same_space}
-use Rattle.tall_semantics.proofs.RowNumberLaws.{numbers, ok_rows, ok_inside, each_row_numbers, each_pair_numbers, integer_numbers, double_numbers, best_numbers, kept_numbers}
+use Rattle.tall_semantics.proofs.RowNumberLaws.{numbers, ok_rows, ok_inside, each_row_numbers, each_pair_numbers, kept_numbers}
 use Rattle.tall_semantics.proofs.SpaceLaws.{num_one, num_rows, num_alone, common_is}
 use Rattle.tall_semantics.specs.Spaces.{Space, rows_of, kept}
 use Rattle.tall_semantics.specs.Faults.{At}
@@ -28,7 +27,7 @@ use Rattle.tall_semantics.specs.RowsOfSpaces.{numbers_in}
 use Rattle.tall_semantics.specs.Shapes.{Shape, place_of, common, masked}
 use Rattle.tall_semantics.specs.Talls.{Tall, Columns, shapes}
 use Rattle.tall_semantics.specs.Deferred.{Vertex, IsMeaning, IsOrdered, IsAmong, fault_in, least_in}
-use Rattle.tall_blocks.specs.Carries.{Rows, or_zero, sums_from, scanned_from}
+use Rattle.tall_blocks.specs.Carries.{Rows, RowsOrFault, or_inexact, scanned_behind}
 use Rattle.tall_blocks.specs.Cut.{CanBeCut, AreCut, AreAligned}
 use Rattle.tall_blocks.specs.ValuesOver.{own_over, outcome_over, value_over, IsOver}
 use Rattle.tall_semantics.proofs.EqualityLaws.{spaces_decided}
@@ -41,16 +40,16 @@ use Rattle.tall_blocks.proofs.TreeOverLaws.{AreOfSpaces, tree_same}
 
 -- ---- operators and scans keep the numbers
 
-sums_keep : (a : Kind) (c : Seen) (rs outs : Rows) → sums_from a c rs ≡ ok_rows outs → numbers outs ≡ numbers rs
-sums_keep (Integer k) c rs outs e = ap numbers (sym (ok_inside (integer_sums k (or_zero (amount c)) rs) outs e)) ∙ integer_numbers k (or_zero (amount c)) rs
-sums_keep Logical c rs outs e = double_numbers (amount c) rs outs e
-sums_keep Double c rs outs e = double_numbers (amount c) rs outs e
-sums_keep Text c rs outs e = double_numbers (amount c) rs outs e
+row_keeps : (n : ℕ) (one : Result Seen CellFault) (rest : RowsOrFault) (ns : List ℕ) (outs : Rows) → ((os : Rows) → rest ≡ ok_rows os → numbers os ≡ ns) → at_row n one rest ≡ ok_rows outs → numbers outs ≡ n ∷ ns
+row_keeps n (Ok c) (Ok os) ns outs h e = ap numbers (sym (ok_inside ((n, c) ∷ os) outs e)) ∙ ap (λ xs. n ∷ xs) (h os refl)
+row_keeps n (Ok c) (Err k) ns outs h e = absurd (cc)
+row_keeps n (Err k) rest ns outs h e = absurd (cc)
 
-scan_keeps : (s : Scan) (a : Kind) (c : Seen) (rs outs : Rows) → scanned_from s a c rs ≡ ok_rows outs → numbers outs ≡ numbers rs
-scan_keeps CumSum a c rs outs e = sums_keep a c rs outs e
-scan_keeps CumMin a c rs outs e = ap numbers (sym (ok_inside (bests lesser c rs) outs e)) ∙ best_numbers lesser c rs
-scan_keeps CumMax a c rs outs e = ap numbers (sym (ok_inside (bests greater c rs) outs e)) ∙ best_numbers greater c rs
+scan_keeps : (s : Scan) (a : Kind) (before : List Seen) (rs outs : Rows) → scanned_behind s a before rs ≡ ok_rows outs → numbers outs ≡ numbers rs
+scan_keeps s a before [] outs e = ap numbers (sym (ok_inside [] outs e))
+scan_keeps s a before (r ∷ rs) outs e =
+    let next : List Seen = before ++ r.1 ∷ [] in
+    row_keeps r.0 (or_inexact (fold_of s a next)) (scanned_behind s a next rs) (numbers rs) outs (λ os h. scan_keeps s a next rs os h) e
 
 pair_keeps : (at : At) (op : Binary) (x y : Outcome) → fault_of x ≡ None → fault_of y ≡ None → numbers_in x ≡ numbers_in y → fault_of (elementwise_two at op x y) ≡ None → numbers_in (elementwise_two at op x y) ≡ numbers_in x
 pair_keeps at op (rows rs) (rows ss) m n e z = num_rows at (binary_rows op rs ss) (numbers rs) (λ outs q. each_pair_numbers (binary_cell op) rs ss outs e q) z
@@ -73,7 +72,7 @@ right_keeps at op (fault g) d m z = absurd (cc)
 
 -- ---- where the rows of a value come from
 
-module _ (whole : Columns) {columns : Columns} {carries : ℕ → Seen} {vs : List Vertex} {f : ℕ → Tall} {cut : ℕ → Bool} {h : ℕ → Outcome} (meaning : IsMeaning whole vs f) (ordered : IsOrdered vs) (over : IsOver columns carries vs f cut h) (can : AreCut f cut vs) (of_spaces : AreOfSpaces columns carries vs f cut) where
+module _ (whole : Columns) {columns : Columns} {so_far : ℕ → List Seen} {vs : List Vertex} {f : ℕ → Tall} {cut : ℕ → Bool} {h : ℕ → Outcome} (meaning : IsMeaning whole vs f) (ordered : IsOrdered vs) (over : IsOver columns so_far vs f cut h) (can : AreCut f cut vs) (of_spaces : AreOfSpaces columns so_far vs f cut) where
   -- a value that is cut and has no fault
   record FreeAt (a : ℕ) : Type 0 where
     u : Vertex
@@ -95,7 +94,7 @@ module _ (whole : Columns) {columns : Columns} {carries : ℕ → Seen} {vs : Li
       (w.0, w.1, ap (λ (s : Shape). s.space) w.2)
 
   -- by the operation
-  view_op : (i : ℕ) (c : Seen) (at : At) (op : Op) (args : List ℕ) (p : Class × Space) → place_of op (shapes (map f args)) ≡ place_ok p → p.1 ≡ (f i).shape.space → CanBeCut f cut (operation op) args
+  view_op : (i : ℕ) (c : List Seen) (at : At) (op : Op) (args : List ℕ) (p : Class × Space) → place_of op (shapes (map f args)) ≡ place_ok p → p.1 ≡ (f i).shape.space → CanBeCut f cut (operation op) args
       → ((a : ℕ) → IsAmong args a → a < i) → ((a : ℕ) → IsAmong args a → cut a ≡ true → FreeAt a) → h i ≡ own_over c at op (map (value_over f h) args) → fault_of (h i) ≡ None → AreEqualBelow i → View i
   view_op i c at (constant x) args p s t k less place o n equal = absurd k
   view_op i c at (unary op) [] p s t k less place o n equal = absurd k
@@ -141,7 +140,7 @@ module _ (whole : Columns) {columns : Columns} {carries : ℕ → Seen} {vs : Li
   view_op i c at (scan r) (a ∷ []) p s t k less place o n equal =
       let kind = kind_of (f a).shape.class in
       lower a (less a (inl refl)) (place a (inl refl) k) (inside (f a).shape.space p.1 (placed_is _ (space_ok (f a).shape.space) p (column_is (f a).shape _ p s)) ∙ t)
-      (ap numbers_in o ∙ num_rows at (scanned_from r kind c (rows_in (h a))) (numbers_in (h a)) (λ outs q. scan_keeps r kind c (rows_in (h a)) outs q) (sym (ap fault_of o) ∙ n))
+      (ap numbers_in o ∙ num_rows at (scanned_behind r kind c (rows_in (h a))) (numbers_in (h a)) (λ outs q. scan_keeps r kind c (rows_in (h a)) outs q) (sym (ap fault_of o) ∙ n))
   view_op i c at (scan r) (a ∷ b ∷ args) p s t k less place o n equal = absurd k
   view_op i c at (reduce r) args p s t k less place o n equal = absurd k
   view_op i c at (head j) args p s t k less place o n equal = absurd k
@@ -151,11 +150,11 @@ module _ (whole : Columns) {columns : Columns} {carries : ℕ → Seen} {vs : Li
 
   view_made : (i : ℕ) (v : Vertex) (m : Made) → slice_get vs i ≡ Some v → cut i ≡ true → v.made ≡ m → fault_of (h i) ≡ None → AreEqualBelow i → View i
   view_made i v (stored s a k) e c q n equal =
-      base v s a e c (subst (λ m. IsVariable m s a) (sym q) (refl, refl)) (sym (ap (λ (t : Tall). t.shape.space) (stored_value whole vs f meaning i v s a k e q))) (subst (λ m. h i ≡ outcome_over columns (carries i) v.at m (map (value_over f h) v.args)) q (over.made i v e c))
+      base v s a e c (subst (λ m. IsVariable m s a) (sym q) (refl, refl)) (sym (ap (λ (t : Tall). t.shape.space) (stored_value whole vs f meaning i v s a k e q))) (subst (λ m. h i ≡ outcome_over columns (so_far i) v.at m (map (value_over f h) v.args)) q (over.made i v e c))
   view_made i v (operation op) e c q n equal =
       let w = space_is i v op e q in
       let none : least_in (value_over f h) v.args ≡ None = none_args over can i v e c n in
-      view_op i (carries i) v.at op v.args w.0 w.1 w.2 (subst (λ m. CanBeCut f cut m v.args) q (can i v e c)) (λ a among. below_among i v.args a (ordered i v e) among)
+      view_op i (so_far i) v.at op v.args w.0 w.1 w.2 (subst (λ m. CanBeCut f cut m v.args) q (can i v e c)) (λ a among. below_among i v.args a (ordered i v e) among)
       (λ a among is_cut.
       let b = get_before vs i a v e (below_among i v.args a (ordered i v e) among) in
       record { u = b.0; there = b.1; is_cut = is_cut; none = least_none (fault_in (value_over f h)) v.args a none among })

@@ -1,22 +1,23 @@
 -- Over a block values with equal trees are equal, where neither has a fault, and behind it scans with equal trees have equal
--- carries.
-use Rattle.std.specs.Prelude.{◌≡◌, refl, ℕ, zero, suc, ◌<◌, Bool, true, false, None, Some, List, [], ◌∷◌, map, slice_get}
+-- cells before the next block.
+use Rattle.std.specs.Prelude.{◌≡◌, refl, ℕ, zero, suc, ◌<◌, Bool, true, false, None, Some, List, [], ◌∷◌, ◌++◌, map, slice_get}
 use Rattle.std.proofs.Common.{ap, sym, subst, ◌∙◌, arith, inl, inr}
 use Rattle.tall_value.specs.declared.class.Class.{Class}
 use Rattle.tall_value.specs.declared.functions.Scan.{Scan}
 use Rattle.tall_value.specs.Cells.{Seen}
+use Rattle.tall_value.specs.Columns.{cells}
 use Rattle.tall_value.specs.Classes.{kind_of}
 use Rattle.tall_semantics.specs.Operations.{Op, constant, unary, binary, filter, reduce, scan, head, tail, distinct, group, Made, stored, operation, Tree, column, leaf, one, two}
 use Rattle.tall_semantics.specs.Spaces.{Space, is_single}
 use Rattle.tall_semantics.specs.Faults.{At, Fault, least_fault}
-use Rattle.tall_semantics.specs.Outcomes.{Outcome, rows, scalar, fault, fault_of, rows_in}
+use Rattle.tall_semantics.specs.Outcomes.{Outcome, rows, scalar, fault, fault_of, rows_in, cells_in}
 use Rattle.tall_semantics.specs.RowsOfSpaces.{numbers_in}
 use Rattle.tall_semantics.specs.Shapes.{Shape, place_of, tree_over}
 use Rattle.tall_semantics.specs.Talls.{Tall, Columns, shapes, outcomes}
 use Rattle.tall_semantics.specs.Deferred.{Vertex, IsMeaning, IsOrdered, IsAmong, fault_in, least_in}
-use Rattle.tall_blocks.specs.Carries.{carry_after, scanned_from}
+use Rattle.tall_blocks.specs.Carries.{scanned_behind}
 use Rattle.tall_blocks.specs.Cut.{IsScalar, CanBeCut, AreCut}
-use Rattle.tall_blocks.specs.ValuesOver.{carry_of, carry_at, next_carries, own_over, outcome_over, value_over, IsOver}
+use Rattle.tall_blocks.specs.ValuesOver.{more_cells, more_cells_at, next_cells, own_over, outcome_over, value_over, IsOver}
 use Rattle.tall_blocks.specs.Blocks.{IsVariable}
 use Rattle.tall_semantics.proofs.OriginLaws.{get_before, below_among}
 use Rattle.tall_semantics.proofs.MeaningLaws.{stored_value, made_value, tall_shape, tree_value}
@@ -27,19 +28,19 @@ use Rattle.tall_semantics.proofs.OriginLaws.{none_or_some, faults_of_values}
 use Rattle.tall_blocks.proofs.Choices.{true_or_false}
 use Rattle.tall_blocks.proofs.SeenLaws.{known_scalar, own_of, none_args, least_none}
 
--- what the values over a block stand on so that spaces tell their rows: equal trees go on from equal carries, what is cut is
+-- what the values over a block stand on so that spaces tell their rows: equal trees go on behind equal cells, what is cut is
 -- no scalar, what is known as a scalar has the space of scalars and is told by its tree, and the variables have equal row
 -- numbers
-pub record AreOfSpaces (columns : Columns) (carries : ℕ → Seen) (vs : List Vertex) (f : ℕ → Tall) (cut : ℕ → Bool) : Type 0 where
-  pub one_carry : (i j : ℕ) (v w : Vertex) → slice_get vs i ≡ Some v → slice_get vs j ≡ Some w → cut i ≡ true → cut j ≡ true → (f i).shape.tree ≡ (f j).shape.tree → carries i ≡ carries j
+pub record AreOfSpaces (columns : Columns) (so_far : ℕ → List Seen) (vs : List Vertex) (f : ℕ → Tall) (cut : ℕ → Bool) : Type 0 where
+  pub one_carry : (i j : ℕ) (v w : Vertex) → slice_get vs i ≡ Some v → slice_get vs j ≡ Some w → cut i ≡ true → cut j ≡ true → (f i).shape.tree ≡ (f j).shape.tree → so_far i ≡ so_far j
   pub cut_rows : (i : ℕ) (v : Vertex) → slice_get vs i ≡ Some v → cut i ≡ true → is_single (f i).shape.space ≡ false
   pub known_single : (i : ℕ) (v : Vertex) → slice_get vs i ≡ Some v → cut i ≡ false → IsScalar (f i).outcome → is_single (f i).shape.space ≡ true
   pub known_same : (i j : ℕ) (v w : Vertex) → slice_get vs i ≡ Some v → slice_get vs j ≡ Some w → cut i ≡ false → cut j ≡ false → IsScalar (f i).outcome → IsScalar (f j).outcome → (f i).shape.tree ≡ (f j).shape.tree → (f i).outcome ≡ (f j).outcome
   pub same_numbers : (i j : ℕ) (v w : Vertex) (s a o : ℕ) → slice_get vs i ≡ Some v → slice_get vs j ≡ Some w → cut i ≡ true → cut j ≡ true → IsVariable v.made s a → IsVariable w.made s o → numbers_in (columns s a) ≡ numbers_in (columns s o)
 
-same_own_over : (c : Seen) (at other : At) (op : Op) (xs : List Tall) → fault_of (own_over c at op xs) ≡ None → own_over c at op xs ≡ own_over c other op xs
+same_own_over : (c : List Seen) (at other : At) (op : Op) (xs : List Tall) → fault_of (own_over c at op xs) ≡ None → own_over c at op xs ≡ own_over c other op xs
 same_own_over c at other (scan s) [] h = refl
-same_own_over c at other (scan s) (x ∷ []) h = same_rows at other (scanned_from s (kind_of x.shape.class) c (rows_in x.outcome)) h
+same_own_over c at other (scan s) (x ∷ []) h = same_rows at other (scanned_behind s (kind_of x.shape.class) c (rows_in x.outcome)) h
 same_own_over c at other (scan s) (x ∷ y ∷ xs) h = refl
 same_own_over c at other (constant k) xs h = same_own at other (constant k) xs h
 same_own_over c at other (unary op) xs h = same_own at other (unary op) xs h
@@ -75,7 +76,7 @@ abbrev place_in : Outcome → Columns → Tree → Outcome
 place_in x columns (column s v c) = columns s v
 place_in x columns tree = x
 
-module _ (whole : Columns) {columns : Columns} {carries : ℕ → Seen} {vs : List Vertex} {f : ℕ → Tall} {cut : ℕ → Bool} {h : ℕ → Outcome} (meaning : IsMeaning whole vs f) (ordered : IsOrdered vs) (over : IsOver columns carries vs f cut h) (can : AreCut f cut vs) (of_spaces : AreOfSpaces columns carries vs f cut) where
+module _ (whole : Columns) {columns : Columns} {so_far : ℕ → List Seen} {vs : List Vertex} {f : ℕ → Tall} {cut : ℕ → Bool} {h : ℕ → Outcome} (meaning : IsMeaning whole vs f) (ordered : IsOrdered vs) (over : IsOver columns so_far vs f cut h) (can : AreCut f cut vs) (of_spaces : AreOfSpaces columns so_far vs f cut) where
   abbrev H : ℕ → Tall
   H = value_over f h
 
@@ -128,7 +129,7 @@ module _ (whole : Columns) {columns : Columns} {carries : ℕ → Seen} {vs : Li
   no_faults i v e c n a among = least_none (fault_in H) v.args a (none_args over can i v e c n) among
 
   stored_is : (i : ℕ) (v : Vertex) (s a : ℕ) (k : Class) → slice_get vs i ≡ Some v → cut i ≡ true → v.made ≡ stored s a k → h i ≡ columns s a
-  stored_is i v s a k e c q = subst (λ m. h i ≡ outcome_over columns (carries i) v.at m (map H v.args)) q (over.made i v e c)
+  stored_is i v s a k e c q = subst (λ m. h i ≡ outcome_over columns (so_far i) v.at m (map H v.args)) q (over.made i v e c)
 
   by_made : (i j : ℕ) (v w : Vertex) (m n : Made) → slice_get vs i ≡ Some v → slice_get vs j ≡ Some w → cut i ≡ true → cut j ≡ true → v.made ≡ m → w.made ≡ n
       → ((a b : ℕ) → IsAmong v.args a → IsAmong w.args b → (f a).shape.tree ≡ (f b).shape.tree → Same a b)
@@ -148,11 +149,11 @@ module _ (whole : Columns) {columns : Columns} {carries : ℕ → Seen} {vs : Li
       let args : map H v.args ≡ map H w.args = a.values_are (no_faults i v e x ni) in
       let under : least_in H v.args ≡ None = none_args over can i v e x ni in
       let under_j : least_in H w.args ≡ None = sym (ap least_fault (faults_of_values H w.args)) ∙ (ap (λ (xs : List Tall). least_fault (map fault_of (outcomes xs))) (sym args) ∙ (ap least_fault (faults_of_values H v.args) ∙ under)) in
-      let left : h i ≡ own_over (carries i) v.at op (map H v.args) = own_of over can i v op e x p (none_args over can i v e x ni) in
-      let right : h j ≡ own_over (carries j) w.at op (map H w.args) = own_of over can j w op g y (q ∙ ap operation (sym a.op_is)) under_j in
-      let at : own_over (carries i) v.at op (map H v.args) ≡ own_over (carries i) w.at op (map H v.args) = same_own_over (carries i) v.at w.at op (map H v.args) (sym (ap fault_of left) ∙ ni) in
+      let left : h i ≡ own_over (so_far i) v.at op (map H v.args) = own_of over can i v op e x p (none_args over can i v e x ni) in
+      let right : h j ≡ own_over (so_far j) w.at op (map H w.args) = own_of over can j w op g y (q ∙ ap operation (sym a.op_is)) under_j in
+      let at : own_over (so_far i) v.at op (map H v.args) ≡ own_over (so_far i) w.at op (map H v.args) = same_own_over (so_far i) v.at w.at op (map H v.args) (sym (ap fault_of left) ∙ ni) in
       same_tall (H i) (H j) (one_shape whole vs f meaning ordered i j v w e g t)
-      (left ∙ (at ∙ (ap (own_over (carries i) w.at op) args ∙ (ap (λ k. own_over k w.at op (map H w.args)) (of_spaces.one_carry i j v w e g x y t) ∙ sym right))))
+      (left ∙ (at ∙ (ap (own_over (so_far i) w.at op) args ∙ (ap (λ k. own_over k w.at op (map H w.args)) (of_spaces.one_carry i j v w e g x y t) ∙ sym right))))
 
   -- of operands, which are cut or known
   operands_same : (a b : ℕ) (u w : Vertex) → slice_get vs a ≡ Some u → slice_get vs b ≡ Some w → (cut a ≡ false → IsScalar (f a).outcome) → (cut b ≡ false → IsScalar (f b).outcome) → (f a).shape.tree ≡ (f b).shape.tree
@@ -205,17 +206,15 @@ module _ (whole : Columns) {columns : Columns} {carries : ℕ → Seen} {vs : Li
       no_rows (scalar c) y e = absurd (cc)
       no_rows (fault z) y e = refl
 
-  after_same : (s : Scan) (a b : ℕ) (c d : Seen) → (f a).shape ≡ (f b).shape → rows_in (h a) ≡ rows_in (h b) → c ≡ d → carry_after s (kind_of (f a).shape.class) c (rows_in (h a)) ≡ carry_after s (kind_of (f b).shape.class) d (rows_in (h b))
-  after_same s a b c d p q r =
-      ap (λ (u : Shape). carry_after s (kind_of u.class) c (rows_in (h a))) p
-      ∙ (ap (λ rs. carry_after s (kind_of (f b).shape.class) c rs) q ∙ ap (λ k. carry_after s (kind_of (f b).shape.class) k (rows_in (h b))) r)
+  after_same : (a b : ℕ) (c d : List Seen) → rows_in (h a) ≡ rows_in (h b) → c ≡ d → c ++ cells_in (h a) ≡ d ++ cells_in (h b)
+  after_same a b c d q r = ap (λ rs. c ++ cells rs) q ∙ ap (λ k. k ++ cells_in (h b)) r
 
-  carry_op : (op : Op) (args others : List ℕ) (c d : Seen) → c ≡ d → CanBeCut f cut (operation op) args → CanBeCut f cut (operation op) others
-      → ((a b : ℕ) → args ≡ a ∷ [] → others ≡ b ∷ [] → cut a ≡ true → cut b ≡ true → ((f a).shape ≡ (f b).shape) × (rows_in (h a) ≡ rows_in (h b)))
-      → carry_of f h (operation op) args c ≡ carry_of f h (operation op) others d
+  carry_op : (op : Op) (args others : List ℕ) (c d : List Seen) → c ≡ d → CanBeCut f cut (operation op) args → CanBeCut f cut (operation op) others
+      → ((a b : ℕ) → args ≡ a ∷ [] → others ≡ b ∷ [] → cut a ≡ true → cut b ≡ true → rows_in (h a) ≡ rows_in (h b))
+      → more_cells h (operation op) args c ≡ more_cells h (operation op) others d
   carry_op (scan s) [] others c d r k l same = absurd k
   carry_op (scan s) (a ∷ []) [] c d r k l same = absurd l
-  carry_op (scan s) (a ∷ []) (b ∷ []) c d r k l same = (let w = same a b refl refl k l in after_same s a b c d w.0 w.1 r)
+  carry_op (scan s) (a ∷ []) (b ∷ []) c d r k l same = (let w = same a b refl refl k l in after_same a b c d w r)
   carry_op (scan s) (a ∷ []) (b ∷ e ∷ others) c d r k l same = absurd l
   carry_op (scan s) (a ∷ b ∷ args) others c d r k l same = absurd k
   carry_op (constant x) args others c d r k l same = r
@@ -232,7 +231,7 @@ module _ (whole : Columns) {columns : Columns} {carries : ℕ → Seen} {vs : Li
   tree_of_one op args a e = ap (λ xs. tree_over op (shapes (map f xs))) e
 
   carry_of_both : (i j : ℕ) (v w : Vertex) (m n : Made) → slice_get vs i ≡ Some v → slice_get vs j ≡ Some w → cut i ≡ true → cut j ≡ true → v.made ≡ m → w.made ≡ n → (f i).shape.tree ≡ (f j).shape.tree
-      → carry_of f h m v.args (carries i) ≡ carry_of f h n w.args (carries j)
+      → more_cells h m v.args (so_far i) ≡ more_cells h n w.args (so_far j)
   carry_of_both i j v w (stored s a c) (stored u b d) e g x y p q t = of_spaces.one_carry i j v w e g x y t
   carry_of_both i j v w (stored s a c) (operation op) e g x y p q t =
       absurd (not_column op (shapes (map f w.args)) s a c (tree_value whole vs f meaning j w op g q ∙ (sym t ∙ sym (ap (λ (z : Tall). z.shape.tree) (stored_value whole vs f meaning i v s a c e p)))))
@@ -248,17 +247,17 @@ module _ (whole : Columns) {columns : Columns} {carries : ℕ → Seen} {vs : Li
       (λ ca cb. by_bound (suc a) a b u.0 z.0 (omega (arith)) u.1 z.1 ca cb k)) trees in
       let left = subst (λ m. CanBeCut f cut m v.args) p (can i v e x) in
       let right = subst (λ m. CanBeCut f cut m w.args) (q ∙ ap operation (sym same.op_is)) (can j w g y) in
-      carry_op op v.args w.args (carries i) (carries j) (of_spaces.one_carry i j v w e g x y t) left right
+      carry_op op v.args w.args (so_far i) (so_far j) (of_spaces.one_carry i j v w e g x y t) left right
       (λ a b r s ca cb.
       let in_a : IsAmong v.args a = subst (λ xs. IsAmong xs a) (sym r) (inl refl) in
       let in_b : IsAmong w.args b = subst (λ xs. IsAmong xs b) (sym s) (inl refl) in
       let u = get_before vs i a v e (below_among i v.args a (ordered i v e) in_a) in
       let z = get_before vs j b w g (below_among j w.args b (ordered j w g) in_b) in
       let k : (f a).shape.tree ≡ (f b).shape.tree = ap first_in (sym (tree_of_one op v.args a r) ∙ (trees ∙ tree_of_one other w.args b s)) in
-      (one_shape whole vs f meaning ordered a b u.0 z.0 u.1 z.1 k, rows_same a b u.0 z.0 u.1 z.1 ca cb k))
-      ∙ ap (λ k. carry_of f h (operation k) w.args (carries j)) same.op_is
+      rows_same a b u.0 z.0 u.1 z.1 ca cb k)
+      ∙ ap (λ k. more_cells h (operation k) w.args (so_far j)) same.op_is
 
-  -- ---- carries
-  pub next_carry : (i j : ℕ) (v w : Vertex) → slice_get vs i ≡ Some v → slice_get vs j ≡ Some w → cut i ≡ true → cut j ≡ true → (f i).shape.tree ≡ (f j).shape.tree → next_carries vs f h carries i ≡ next_carries vs f h carries j
+  -- ---- cells so far
+  pub next_carry : (i j : ℕ) (v w : Vertex) → slice_get vs i ≡ Some v → slice_get vs j ≡ Some w → cut i ≡ true → cut j ≡ true → (f i).shape.tree ≡ (f j).shape.tree → next_cells vs h so_far i ≡ next_cells vs h so_far j
   next_carry i j v w e g x y t =
-      ap (λ o. carry_at f h o (carries i)) e ∙ (carry_of_both i j v w v.made w.made e g x y refl refl t ∙ sym (ap (λ o. carry_at f h o (carries j)) g))
+      ap (λ o. more_cells_at h o (so_far i)) e ∙ (carry_of_both i j v w v.made w.made e g x y refl refl t ∙ sym (ap (λ o. more_cells_at h o (so_far j)) g))

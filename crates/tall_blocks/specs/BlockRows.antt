@@ -12,8 +12,8 @@ use Rattle.tall_semantics.specs.Numbered.{levels_in}
 use Rattle.tall_semantics.specs.Samples.{at, doubles, number}
 use Rattle.tall_blocks.specs.Blocks.{all_rows}
 use Rattle.tall_blocks.specs.PassWork.{cut_at}
-use Rattle.tall_blocks.specs.ValuesOver.{value_over, block_outcomes, rows_of_blocks}
-use Rattle.tall_blocks.specs.BlockSamples.{vertices, blocks, value, cut, start, over_first, behind_first, over_second}
+use Rattle.tall_blocks.specs.ValuesOver.{no_cells, value_over, block_outcomes, rows_of_blocks}
+use Rattle.tall_blocks.specs.BlockSamples.{vertices, blocks, value, cut, over_first, behind_first, over_second}
 
 abbrev own : (ℕ → Outcome) → List (Option Fault)
 own h = map (own_in vertices (value_over value h)) (0 ∷ 1 ∷ 3 ∷ 4 ∷ [])
@@ -47,12 +47,12 @@ known_whole : map over_second (2 ∷ []) ≡ scalar (number (pos 1)) ∷ []
 unfolding tall talls_from
 known_whole = refl
 
--- the running sum of the second block begins with the 0 of the first
-carried : behind_first 4 ≡ number (pos 0)
+-- the running sum of the second block goes on behind the 0 of the first
+carried : behind_first 4 ≡ number (pos 0) ∷ []
 unfolding tall talls_from
 carried = refl
 
-sums_of_blocks : rows_of_blocks (block_outcomes vertices value cut start blocks) 4 ≡ numbered 1 (doubles (Some (pos 0) ∷ None ∷ []))
+sums_of_blocks : rows_of_blocks (block_outcomes vertices value cut no_cells blocks) 4 ≡ numbered 1 (doubles (Some (pos 0) ∷ None ∷ []))
 unfolding tall talls_from
 sums_of_blocks = refl
 

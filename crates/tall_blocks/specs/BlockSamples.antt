@@ -14,7 +14,7 @@ use Rattle.tall_semantics.specs.Deferred.{Vertex}
 use Rattle.tall_semantics.specs.InOrder.{tall_in, talls}
 use Rattle.tall_semantics.specs.Samples.{at, doubles, number}
 use Rattle.tall_blocks.specs.Blocks.{Block, block_columns, all_rows}
-use Rattle.tall_blocks.specs.ValuesOver.{next_carries, start_carries, outcomes_over}
+use Rattle.tall_blocks.specs.ValuesOver.{next_cells, no_cells, outcomes_over}
 
 abbrev pub vertices : List Vertex
 vertices =
@@ -44,14 +44,11 @@ value = tall_in (talls whole_columns vertices)
 abbrev pub cut : ℕ → Bool
 cut i = not (i == 2)
 
-abbrev pub start : ℕ → Seen
-start = start_carries vertices value
-
 abbrev pub over_first : ℕ → Outcome
-over_first = outcomes_over (block_columns first_block) start vertices value cut
+over_first = outcomes_over (block_columns first_block) no_cells vertices value cut
 
-abbrev pub behind_first : ℕ → Seen
-behind_first = next_carries vertices value over_first start
+abbrev pub behind_first : ℕ → List Seen
+behind_first = next_cells vertices over_first no_cells
 
 abbrev pub over_second : ℕ → Outcome
 over_second = outcomes_over (block_columns second_block) behind_first vertices value cut

@@ -1,14 +1,16 @@
--- Scans over some rows of a column. A scan goes on from a carry: its last cell so far, or before the first row a cell that
--- changes nothing.
-use Rattle.std.specs.Prelude.{ℤ, ℕ, pos, Option, None, Some, Result, Ok, Err, List, [], ◌∷◌, ◌++◌}
+-- Scans over some rows of a column, behind the cells before them. Each row has the fold of all cells up to it, by the one
+-- notion of what a scan goes on from (crates/tall_semantics/specs: ScanCarries); what is kept of it for a block is the fold
+-- of the cells before the block, its carry.
+use Rattle.std.specs.Prelude.{◌≡◌, ◌≤ℤ◌, ℕ, Option, None, Some, Result, Ok, Err, List, [], ◌∷◌, ◌++◌, get_or}
 use Rattle.tall_value.specs.declared.class.Kind.{Kind}
-use Rattle.tall_value.specs.declared.class.Kind.TheVariants.{Integer}
+use Rattle.tall_value.specs.declared.class.Kind.TheVariants.{Integer, Logical, Double, Text}
 use Rattle.tall_value.specs.declared.faults.CellFault.{CellFault}
+use Rattle.tall_value.specs.declared.faults.CellFault.TheVariants.{Inexact}
 use Rattle.tall_value.specs.declared.functions.Scan.{Scan}
-use Rattle.tall_value.specs.declared.functions.Scan.TheVariants.{CumSum, CumMin, CumMax}
-use Rattle.tall_value.specs.Cells.{Seen, whole, double, amount}
-use Rattle.tall_value.specs.Reductions.{lesser, greater}
-use Rattle.tall_value.specs.Scans.{integer_sums, double_sums, bests}
+use Rattle.tall_value.specs.Cells.{Seen, whole, seen_kind}
+use Rattle.tall_value.specs.Classes.{greatest, least}
+use Rattle.tall_value.specs.Elementwise.{at_row}
+use Rattle.tall_semantics.specs.ScanCarries.{fold_of, carries_of}
 
 -- cells with the numbers of their rows
 abbrev pub Rows : Type 0
@@ -24,37 +26,43 @@ rows_joined (Ok rs) (Ok ss) = Ok (rs ++ ss)
 rows_joined (Ok rs) (Err e) = Err e
 rows_joined (Err e) s = Err e
 
--- the carry before the first row
-abbrev pub scan_start : Scan → Kind → Seen
-scan_start CumSum (Integer k) = whole k (pos 0)
-scan_start CumSum a = double (Some (pos 0))
-scan_start CumMin a = double None
-scan_start CumMax a = double None
+-- ---- scans
 
--- the sum that an integer carry stands for; no integer is without an amount
-abbrev pub or_zero : Option ℤ → ℤ
-or_zero (Some n) = n
-or_zero None = pos 0
+-- there is no fold where a sum of doubles is out of range
+abbrev pub or_inexact : Option Seen → Result Seen CellFault
+or_inexact (Some c) = Ok c
+or_inexact None = Err Inexact
 
-abbrev pub sums_from : Kind → (carry : Seen) → Rows → RowsOrFault
-sums_from (Integer k) carry rs = Ok (integer_sums k (or_zero (amount carry)) rs)
-sums_from a carry rs = double_sums (amount carry) rs
+-- the scan of rows of a column of a kind, behind the cells before them: the first row whose fold is out of range is the
+-- fault, whatever is behind it
+abbrev pub scanned_behind : Scan → Kind → (before : List Seen) → Rows → RowsOrFault
+scanned_behind s a before [] = Ok []
+scanned_behind s a before (r ∷ rs) = at_row r.0 (or_inexact (fold_of s a (before ++ r.1 ∷ []))) (scanned_behind s a (before ++ r.1 ∷ []) rs)
 
--- the scan of a column of a kind, from a carry on
-abbrev pub scanned_from : Scan → Kind → (carry : Seen) → Rows → RowsOrFault
-scanned_from CumSum a carry rs = sums_from a carry rs
-scanned_from CumMin a carry rs = Ok (bests lesser carry rs)
-scanned_from CumMax a carry rs = Ok (bests greater carry rs)
+-- ---- carries
 
-abbrev pub last_cell : Seen → Rows → Seen
-last_cell c [] = c
-last_cell c (r ∷ rs) = last_cell r.1 rs
+-- of all blocks, one after the other
+abbrev pub flat : {A : Type 0} → List (List A) → List A
+flat [] = []
+flat (b ∷ bs) = b ++ flat bs
 
--- the last cell, or the cell given where there are no rows, and where there is a fault, behind which nothing is scanned
-abbrev pub last_of : Seen → RowsOrFault → Seen
-last_of c (Ok rs) = last_cell c rs
-last_of c (Err e) = c
+-- the carry of the block at a place, of which there is none behind a fold that is out of range
+abbrev pub carry_for : Scan → Kind → (blocks : List (List Seen)) → (place : ℕ) → Option Seen
+carry_for s a blocks place = get_or (carries_of s a blocks) place None
 
--- the carry behind some rows
-abbrev pub carry_after : Scan → Kind → (carry : Seen) → Rows → Seen
-carry_after s a carry rs = last_of carry (scanned_from s a carry rs)
+abbrev pub AllCells : (Seen → Type 0) → List Seen → Type 0
+AllCells P [] = Unit {0}
+AllCells P (c ∷ cs) = P c × AllCells P cs
+
+-- a cell of a kind that a scan takes
+abbrev pub HasScanKind : Kind → Seen → Type 0
+HasScanKind Text c = ⊥
+HasScanKind (Integer k) c = seen_kind c ≡ Integer k
+HasScanKind Logical c = seen_kind c ≡ Logical
+HasScanKind Double c = seen_kind c ≡ Double
+
+-- a number of an integer class is within the class
+abbrev pub IsInClass : Kind → Seen → Type 0
+IsInClass (Integer k) (whole j n) = (j ≡ k) × (least k ≤ℤ n) × (n ≤ℤ greatest k)
+IsInClass (Integer k) c = ⊥
+IsInClass a c = Unit {0}

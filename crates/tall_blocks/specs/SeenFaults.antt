@@ -11,13 +11,13 @@ use Rattle.tall_semantics.specs.Numbered.{AreNumbered}
 use Rattle.tall_semantics.specs.RowsOfSpaces.{AreColumns}
 use Rattle.tall_blocks.specs.Blocks.{Block, block_columns, AreBlocksOf, AreTables, AreAscending}
 use Rattle.tall_blocks.specs.Cut.{AreOfStore}
-use Rattle.tall_blocks.specs.ValuesOver.{value_over, IsOver, next_carries}
+use Rattle.tall_blocks.specs.ValuesOver.{value_over, IsOver, next_cells}
 
 -- cs are the least own faults seen in each block, among the values with P
-abbrev pub AreSeen : List Vertex → (ℕ → Tall) → (ℕ → Bool) → (P : ℕ → Type 0) → (carries : ℕ → Seen) → List Block → List (Option Fault) → Type 0
-AreSeen vs f cut P carries [] cs = cs ≡ []
-AreSeen vs f cut P carries (b ∷ bs) [] = ⊥
-AreSeen vs f cut P carries (b ∷ bs) (c ∷ cs) = (h : ℕ → Outcome) × IsOver (block_columns b) carries vs f cut h × IsLeast (own_in vs (value_over f h)) P c × AreSeen vs f cut P (next_carries vs f h carries) bs cs
+abbrev pub AreSeen : List Vertex → (ℕ → Tall) → (ℕ → Bool) → (P : ℕ → Type 0) → (so_far : ℕ → List Seen) → List Block → List (Option Fault) → Type 0
+AreSeen vs f cut P so_far [] cs = cs ≡ []
+AreSeen vs f cut P so_far (b ∷ bs) [] = ⊥
+AreSeen vs f cut P so_far (b ∷ bs) (c ∷ cs) = (h : ℕ → Outcome) × IsOver (block_columns b) so_far vs f cut h × IsLeast (own_in vs (value_over f h)) P c × AreSeen vs f cut P (next_cells vs h so_far) bs cs
 
 -- what a pass over a datastore stands on that computes block by block what is cut
 pub record IsBlockwise (columns : Columns) (of_stores : ℕ → List ℕ) (vs : List Vertex) (f : ℕ → Tall) (store : ℕ) (cut : ℕ → Bool) (bs : List Block) : Type 0 where

@@ -13,24 +13,24 @@ ghost use Rattle.tall_blocks.specs.Folds.{Fold, fold_of, omits, reduction_result
 ghost use Rattle.tall_blocks.specs.FoldsOfBlocks.{distinct_of_blocks, first_of_blocks, groups_of_blocks, kept_of_blocks, last_of_blocks};
 ghost use Rattle.tall_blocks.specs.GroupsOver.{groups_of};
 ghost use Rattle.tall_blocks.specs.SeenFaults.{IsBlockwise};
-ghost use Rattle.tall_blocks.specs.ValuesOver.{block_outcomes, start_carries};
+ghost use Rattle.tall_blocks.specs.ValuesOver.{block_outcomes, no_cells};
 
 /// What functions of a whole column take of a value without a fault is told by its rows of each block, in order: what a
 /// reduction keeps, the first and the last rows, the distinct cells, and the groups of two values of one space.
 pub fn functions_of_columns_go_on_block_by_block()
     ensures reductions { (columns : Columns) (of_stores : ℕ → List ℕ) (vs : List Vertex) (f : ℕ → Tall) (store : ℕ) (cut : ℕ → Bool) (bs : List Block) → IsBlockwise columns of_stores vs f store cut bs
         → (i : ℕ) (v : Vertex) → slice_get vs i ≡ Some v → cut i ≡ true → fault_in f i ≡ None
-        → (r : Reduction) (a : Kind) → reduced r a (cells_in (f i).outcome) ≡ reduction_result r a (kept_of_blocks (fold_of r a) (omits r) (start (fold_of r a)) (block_outcomes vs f cut (start_carries vs f) bs) i) }
+        → (r : Reduction) (a : Kind) → reduced r a (cells_in (f i).outcome) ≡ reduction_result r a (kept_of_blocks (fold_of r a) (omits r) (start (fold_of r a)) (block_outcomes vs f cut no_cells bs) i) }
     ensures first { (columns : Columns) (of_stores : ℕ → List ℕ) (vs : List Vertex) (f : ℕ → Tall) (store : ℕ) (cut : ℕ → Bool) (bs : List Block) → IsBlockwise columns of_stores vs f store cut bs
         → (i : ℕ) (v : Vertex) → slice_get vs i ≡ Some v → cut i ≡ true → fault_in f i ≡ None
-        → (k : ℕ) → first_rows k (rows_in (f i).outcome) ≡ first_of_blocks k [] (block_outcomes vs f cut (start_carries vs f) bs) i }
+        → (k : ℕ) → first_rows k (rows_in (f i).outcome) ≡ first_of_blocks k [] (block_outcomes vs f cut no_cells bs) i }
     ensures last { (columns : Columns) (of_stores : ℕ → List ℕ) (vs : List Vertex) (f : ℕ → Tall) (store : ℕ) (cut : ℕ → Bool) (bs : List Block) → IsBlockwise columns of_stores vs f store cut bs
         → (i : ℕ) (v : Vertex) → slice_get vs i ≡ Some v → cut i ≡ true → fault_in f i ≡ None
-        → (k : ℕ) → last_rows k (rows_in (f i).outcome) ≡ last_of_blocks k [] (block_outcomes vs f cut (start_carries vs f) bs) i }
+        → (k : ℕ) → last_rows k (rows_in (f i).outcome) ≡ last_of_blocks k [] (block_outcomes vs f cut no_cells bs) i }
     ensures distinct_cells { (columns : Columns) (of_stores : ℕ → List ℕ) (vs : List Vertex) (f : ℕ → Tall) (store : ℕ) (cut : ℕ → Bool) (bs : List Block) → IsBlockwise columns of_stores vs f store cut bs
         → (i : ℕ) (v : Vertex) → slice_get vs i ≡ Some v → cut i ≡ true → fault_in f i ≡ None
-        → distinct (cells_in (f i).outcome) ≡ distinct_of_blocks [] (block_outcomes vs f cut (start_carries vs f) bs) i }
+        → distinct (cells_in (f i).outcome) ≡ distinct_of_blocks [] (block_outcomes vs f cut no_cells bs) i }
     ensures groups { (columns : Columns) (of_stores : ℕ → List ℕ) (vs : List Vertex) (f : ℕ → Tall) (store : ℕ) (cut : ℕ → Bool) (bs : List Block) → IsBlockwise columns of_stores vs f store cut bs
         → (i j : ℕ) (v w : Vertex) → slice_get vs i ≡ Some v → slice_get vs j ≡ Some w → cut i ≡ true → cut j ≡ true → (f i).shape.space ≡ (f j).shape.space → fault_in f i ≡ None → fault_in f j ≡ None
-        → (g : Fold) (passes_nan : Bool) → groups_of g passes_nan (cells_in (f i).outcome) (cells_in (f j).outcome) ≡ groups_of_blocks g passes_nan [] (block_outcomes vs f cut (start_carries vs f) bs) i j }
+        → (g : Fold) (passes_nan : Bool) → groups_of g passes_nan (cells_in (f i).outcome) (cells_in (f j).outcome) ≡ groups_of_blocks g passes_nan [] (block_outcomes vs f cut no_cells bs) i j }
 {}

@@ -1,5 +1,5 @@
 //! Laws of the definitions, each the contract of a function without a body.
-ghost use Rattle.std.specs.Prelude.{◌≡◌, ◌⊎◌, ℕ, Bool, true, List, [], ◌∷◌, ◌++◌, Option, None, Some, slice_get};
+ghost use Rattle.std.specs.Prelude.{◌≡◌, ◌<◌, ◌≤◌, ◌⊎◌, ℕ, Bool, true, List, [], ◌∷◌, ◌++◌, length, map, take, Option, None, Some, Err, slice_get};
 ghost use Rattle.tall_value.specs.declared.class.Kind.{Kind};
 ghost use Rattle.tall_value.specs.declared.functions.Scan.{Scan};
 ghost use Rattle.tall_value.specs.Cells.{Seen};
@@ -11,24 +11,39 @@ ghost use Rattle.tall_semantics.specs.Deferred.{IsAmong, IsMeaning, IsOrdered, V
 ghost use Rattle.tall_semantics.specs.Least.{IsLeast};
 ghost use Rattle.tall_blocks.specs.Blocks.{Block, all_rows, block_columns};
 ghost use Rattle.tall_blocks.specs.BlockSamples.{blocks, cut, value, vertices, whole_columns};
-ghost use Rattle.tall_blocks.specs.Carries.{Rows, carry_after, rows_joined, scan_start, scanned_from};
+ghost use Rattle.tall_blocks.specs.Carries.{AllCells, HasScanKind, IsInClass, Rows, carry_for, flat, rows_joined, scanned_behind};
+ghost use Rattle.tall_semantics.specs.ScanCarries.{fold_of};
+ghost use Rattle.tall_value.specs.Columns.{cells};
+ghost use Rattle.tall_value.specs.declared.faults.CellFault.{CellFault};
 ghost use Rattle.tall_blocks.specs.Cut.{AreAligned, AreCut, AreOfStore, IsCutWork};
 ghost use Rattle.tall_blocks.specs.FoldsOfBlocks.{AreAsLong};
 ghost use Rattle.tall_blocks.specs.SeenFaults.{AreSeen, IsBlockwise};
-ghost use Rattle.tall_blocks.specs.ValuesOver.{AreParts, IsOver, block_outcomes, next_carries, outcomes_over, rows_of_blocks, start_carries};
+ghost use Rattle.tall_blocks.specs.ValuesOver.{AreParts, IsOver, block_outcomes, next_cells, outcomes_over, rows_of_blocks, no_cells};
 
-/// A scan over some rows and then others goes on from the last cell over the first, and from its start it is that of the
-/// definition.
+/// Behind no cells a scan is that of the definition; behind some rows it goes on behind their cells too. The fold of the
+/// cells before, where it is there, stands for all of them as one cell: a block is scanned from its carry. Where there is no
+/// fold the scan has failed before.
 pub fn scans_go_on_from_a_carry()
-    ensures start { (s : Scan) (a : Kind) (rs : Rows) → scanned_from s a (scan_start s a) rs ≡ scanned s a rs }
-    ensures goes_on { (s : Scan) (a : Kind) (c : Seen) (rs ss : Rows) → scanned_from s a c (rs ++ ss) ≡ rows_joined (scanned_from s a c rs) (scanned_from s a (carry_after s a c rs) ss) }
+    ensures start { (s : Scan) (a : Kind) (rs : Rows) → AllCells (HasScanKind a) (cells rs) → scanned_behind s a [] rs ≡ scanned s a rs }
+    ensures goes_on { (s : Scan) (a : Kind) (before : List Seen) (rs ss : Rows) → scanned_behind s a before (rs ++ ss) ≡ rows_joined (scanned_behind s a before rs) (scanned_behind s a (before ++ cells rs) ss) }
+    ensures stands { (s : Scan) (a : Kind) (before cs : List Seen) (c : Seen) → fold_of s a before ≡ Some c → AllCells (IsInClass a) cs → fold_of s a (c ∷ cs) ≡ fold_of s a (before ++ cs) }
+    ensures from_its_carry { (s : Scan) (a : Kind) (before : List Seen) (rs : Rows) (c : Seen) → fold_of s a before ≡ Some c → AllCells (IsInClass a) (cells rs) → scanned_behind s a (c ∷ []) rs ≡ scanned_behind s a before rs }
+    ensures failed { (s : Scan) (a : Kind) (rs : Rows) → fold_of s a (cells rs) ≡ None → (e : ℕ × CellFault) × (scanned_behind s a [] rs ≡ Err e) }
+{}
+
+/// The carry of a block, where it is there, is the fold of the cells of all blocks before; where it isn't, the fold is out of
+/// range before this block or an earlier one, and the scan over the blocks before has failed.
+pub fn a_carry_is_the_fold_before_the_block()
+    ensures there { (s : Scan) (a : Kind) (blocks : List (List Seen)) (n : ℕ) (c : Seen) → carry_for s a blocks n ≡ Some c → fold_of s a (flat (take n blocks)) ≡ Some c }
+    ensures missing { (s : Scan) (a : Kind) (blocks : List (List Seen)) (n : ℕ) → n < length blocks → carry_for s a blocks n ≡ None → (m : ℕ) × (m ≤ n) × (fold_of s a (flat (take m blocks)) ≡ None) }
+    ensures failed { (s : Scan) (a : Kind) (blocks : List Rows) (n : ℕ) → n < length blocks → carry_for s a (map cells blocks) n ≡ None → (e : ℕ × CellFault) × (scanned_behind s a [] (flat (take n blocks)) ≡ Err e) }
 {}
 
 /// The values over some rows exist, and are the only ones; what has a datastore's rows is made of variables by operators,
 /// filters and scans.
 pub fn values_over_some_rows_exist()
-    ensures exist { (columns : Columns) (carries : ℕ → Seen) (vs : List Vertex) (f : ℕ → Tall) (cut : ℕ → Bool) → IsOrdered vs → IsOver columns carries vs f cut (outcomes_over columns carries vs f cut) }
-    ensures only { (columns : Columns) (carries : ℕ → Seen) (vs : List Vertex) (f : ℕ → Tall) (cut : ℕ → Bool) (h k : ℕ → Outcome) → IsOrdered vs → IsOver columns carries vs f cut h → IsOver columns carries vs f cut k
+    ensures exist { (columns : Columns) (so_far : ℕ → List Seen) (vs : List Vertex) (f : ℕ → Tall) (cut : ℕ → Bool) → IsOrdered vs → IsOver columns so_far vs f cut (outcomes_over columns so_far vs f cut) }
+    ensures only { (columns : Columns) (so_far : ℕ → List Seen) (vs : List Vertex) (f : ℕ → Tall) (cut : ℕ → Bool) (h k : ℕ → Outcome) → IsOrdered vs → IsOver columns so_far vs f cut h → IsOver columns so_far vs f cut k
         → (i : ℕ) (v : Vertex) → slice_get vs i ≡ Some v → h i ≡ k i }
     ensures cut { (columns : Columns) (vs : List Vertex) (f : ℕ → Tall) (cut : ℕ → Bool) (store : ℕ) → IsMeaning columns vs f → AreOfStore store vs f cut → AreCut f cut vs }
 {}
@@ -36,8 +51,8 @@ pub fn values_over_some_rows_exist()
 /// Over a block and the blocks behind it a value has no fault exactly where it has none over either, and then it has the
 /// rows of both, in order.
 pub fn a_value_has_the_rows_of_its_parts()
-    ensures { (vs : List Vertex) (f : ℕ → Tall) (cut : ℕ → Bool) (b : Block) (bs : List Block) (carries : ℕ → Seen) (h g k : ℕ → Outcome) → IsOrdered vs → AreCut f cut vs
-        → IsOver (block_columns (all_rows (b ∷ bs))) carries vs f cut h → IsOver (block_columns b) carries vs f cut g → IsOver (block_columns (all_rows bs)) (next_carries vs f g carries) vs f cut k → AreAligned vs cut g
+    ensures { (vs : List Vertex) (f : ℕ → Tall) (cut : ℕ → Bool) (b : Block) (bs : List Block) (so_far : ℕ → List Seen) (h g k : ℕ → Outcome) → IsOrdered vs → AreCut f cut vs
+        → IsOver (block_columns (all_rows (b ∷ bs))) so_far vs f cut h → IsOver (block_columns b) so_far vs f cut g → IsOver (block_columns (all_rows bs)) (next_cells vs g so_far) vs f cut k → AreAligned vs cut g
         → (i : ℕ) (v : Vertex) → slice_get vs i ≡ Some v → (cut i ≡ true) → (fault_of (h i) ≡ None) ⊎ ((fault_of (g i) ≡ None) × (fault_of (k i) ≡ None)) → AreParts (h i) (g i) (k i) }
 {}
 
@@ -45,14 +60,14 @@ pub fn a_value_has_the_rows_of_its_parts()
 /// of one space have equally many in each, and the least own fault is the least of those seen block by block.
 pub fn a_pass_by_blocks_gives_the_values()
     ensures whole { (columns : Columns) (of_stores : ℕ → List ℕ) (vs : List Vertex) (f : ℕ → Tall) (store : ℕ) (cut : ℕ → Bool) (bs : List Block) → IsBlockwise columns of_stores vs f store cut bs
-        → IsOver (block_columns (all_rows bs)) (start_carries vs f) vs f cut (λ i. (f i).outcome) }
+        → IsOver (block_columns (all_rows bs)) no_cells vs f cut (λ i. (f i).outcome) }
     ensures rows { (columns : Columns) (of_stores : ℕ → List ℕ) (vs : List Vertex) (f : ℕ → Tall) (store : ℕ) (cut : ℕ → Bool) (bs : List Block) → IsBlockwise columns of_stores vs f store cut bs
-        → (i : ℕ) (v : Vertex) → slice_get vs i ≡ Some v → cut i ≡ true → fault_in f i ≡ None → (f i).outcome ≡ rows (rows_of_blocks (block_outcomes vs f cut (start_carries vs f) bs) i) }
+        → (i : ℕ) (v : Vertex) → slice_get vs i ≡ Some v → cut i ≡ true → fault_in f i ≡ None → (f i).outcome ≡ rows (rows_of_blocks (block_outcomes vs f cut no_cells bs) i) }
     ensures lengths { (columns : Columns) (of_stores : ℕ → List ℕ) (vs : List Vertex) (f : ℕ → Tall) (store : ℕ) (cut : ℕ → Bool) (bs : List Block) → IsBlockwise columns of_stores vs f store cut bs
         → (i j : ℕ) (v w : Vertex) → slice_get vs i ≡ Some v → slice_get vs j ≡ Some w → cut i ≡ true → cut j ≡ true → (f i).shape.space ≡ (f j).shape.space → fault_in f i ≡ None → fault_in f j ≡ None
-        → AreAsLong (block_outcomes vs f cut (start_carries vs f) bs) i j }
+        → AreAsLong (block_outcomes vs f cut no_cells bs) i j }
     ensures least { (columns : Columns) (of_stores : ℕ → List ℕ) (vs : List Vertex) (f : ℕ → Tall) (store : ℕ) (cut : ℕ → Bool) (bs : List Block) → IsBlockwise columns of_stores vs f store cut bs
-        → (work : List ℕ) → IsCutWork vs cut (IsAmong work) → (cs : List (Option Fault)) → AreSeen vs f cut (IsAmong work) (start_carries vs f) bs cs → IsLeast (own_in vs f) (IsAmong work) (least_fault cs) }
+        → (work : List ℕ) → IsCutWork vs cut (IsAmong work) → (cs : List (Option Fault)) → AreSeen vs f cut (IsAmong work) no_cells bs cs → IsLeast (own_in vs f) (IsAmong work) (least_fault cs) }
 {}
 
 /// What a pass over blocks stands on can be met: a column, its logical cells, a constant over these, and a running sum, over

@@ -12,7 +12,7 @@ ghost use Rattle.tall_blocks.specs.Blocks.{AreAscending, AreBlocksOf, AreTables,
 ghost use Rattle.tall_blocks.specs.Cut.{AreOfStore, IsCutWork};
 ghost use Rattle.tall_blocks.specs.PassWork.{AreScalarsLower, IsCutAt, IsWorkOf, cut_at};
 ghost use Rattle.tall_blocks.specs.SeenFaults.{AreSeen};
-ghost use Rattle.tall_blocks.specs.ValuesOver.{start_carries};
+ghost use Rattle.tall_blocks.specs.ValuesOver.{no_cells};
 
 /// The values of a pass are told by a test. By levels and by ranks a scalar that a value with rows is made of comes before
 /// the value's pass.
@@ -38,6 +38,6 @@ pub fn a_pass_finds_the_fault_of_its_level()
     ensures seen { (columns : Columns) (of_stores : ℕ → List ℕ) (vs : List Vertex) (f : ℕ → Tall) (levels : ℕ → ℕ) (roots needed : List ℕ) → IsGather columns vs f levels roots needed
         → (store k : ℕ) (c : Option Fault) → IsLeast (own_in vs f) (UpTo (nodes_by vs f levels) (IsAmong needed) k) c → (cut : ℕ → Bool) → IsCutAt store vs f levels needed (k + 1) c cut
         → AreNumbered vs → AreColumns columns of_stores vs → AreScalarsLower vs f levels → (bs : List Block) → AreBlocksOf columns vs cut bs → AreTables vs cut bs → AreAscending bs
-        → (work : List ℕ) → ((i : ℕ) → IsAmong work i ↔ (cut i ≡ true)) → (cs : List (Option Fault)) → AreSeen vs f cut (IsAmong work) (start_carries vs f) bs cs
+        → (work : List ℕ) → ((i : ℕ) → IsAmong work i ↔ (cut i ≡ true)) → (cs : List (Option Fault)) → AreSeen vs f cut (IsAmong work) no_cells bs cs
         → IsLeast (own_in vs f) (IsWorkOf store vs f levels needed (k + 1) c) (least_fault cs) }
 {}

@@ -11,7 +11,7 @@ mod parts;
 
 pub use columns::functions_of_columns_go_on_block_by_block;
 pub use laws::{
-    a_pass_by_blocks_gives_the_values, a_value_has_the_rows_of_its_parts, premises_can_be_met,
+    a_carry_is_the_fold_before_the_block, a_pass_by_blocks_gives_the_values, a_value_has_the_rows_of_its_parts, premises_can_be_met,
     scans_go_on_from_a_carry, values_over_some_rows_exist,
 };
 pub use levels::{a_pass_finds_the_fault_of_its_level, the_values_of_a_pass_are_told};

@@ -13,7 +13,7 @@ ghost use Rattle.tall_value.specs.Distinct.{distinct, distinct_rows};
 ghost use Rattle.tall_value.specs.Ends.{first_rows, last_rows};
 ghost use Rattle.tall_value.specs.Groups.{all_values, group_counts, group_keys, group_value, group_values};
 ghost use Rattle.tall_value.specs.Reductions.{reduced};
-ghost use Rattle.tall_blocks.specs.Carries.{Rows, scanned_from};
+ghost use Rattle.tall_blocks.specs.Carries.{Rows, scanned_behind};
 ghost use Rattle.tall_blocks.specs.Folds.{Fold, Kept, PartFold, Value, by_parts, every_cell, fold_of, joined, method_fold, method_omits, method_result, more, number_of, omits, reduction_result, start, used, value_of};
 ghost use Rattle.tall_blocks.specs.RowPlaces.{kept_place, number_at, renumbered, with_numbers};
 ghost use Rattle.tall_blocks.specs.GroupsOver.{groups_joined, groups_more, groups_of, keys_of};
@@ -23,14 +23,15 @@ ghost use Rattle.tall_blocks.specs.GroupsOver.{groups_joined, groups_more, group
 pub fn places_and_numbers_of_rows_agree()
     ensures one { (g : Seen → Result Seen CellFault) (rs : Rows) → each_row g rs ≡ with_numbers rs (each_row g (numbered 0 (cells rs))) }
     ensures two { (g : Seen → Seen → Result Seen CellFault) (rs ss : Rows) → each_pair g rs ss ≡ with_numbers rs (each_pair g (numbered 0 (cells rs)) (numbered 0 (cells ss))) }
-    ensures scans { (s : Scan) (a : Kind) (c : Seen) (rs : Rows) → scanned_from s a c rs ≡ with_numbers rs (scanned_from s a c (numbered 0 (cells rs))) }
+    ensures scans { (s : Scan) (a : Kind) (before : List Seen) (rs : Rows) → scanned_behind s a before rs ≡ with_numbers rs (scanned_behind s a before (numbered 0 (cells rs))) }
     ensures same_cells { (rs others : Rows) → length others ≡ length rs → cells (renumbered rs others) ≡ cells others }
     ensures kept_cells { (rs : Rows) (mask : List Seen) → cells (kept rs mask) ≡ kept (cells rs) mask }
     ensures kept_numbers { (rs : Rows) (mask : List Seen) (k : ℕ) → k < length (kept rs mask) → number_at (kept rs mask) k ≡ number_at rs (kept_place mask k) }
 {}
 
 /// What a reduction and a method of groups give is told by what is kept of the cells; with further cells it goes on from
-/// there. What is kept of two parts joins, but for the sum in an integer class.
+/// there. What is kept of two parts joins, but for the sum in an integer class; joining is associative, and what is kept of no
+/// cells changes nothing on either side.
 pub fn reductions_go_on_from_what_is_kept()
     ensures reductions { (r : Reduction) (a : Kind) (cs : List Seen) → reduced r a cs ≡ reduction_result r a (more (fold_of r a) (start (fold_of r a)) (used (omits r) cs)) }
     ensures methods { (m : Method) (a : Kind) (cs : List Seen) → group_value m a cs ≡ method_result m a (more (method_fold m a) (start (method_fold m a)) (used (method_omits m) cs)) }
@@ -38,8 +39,9 @@ pub fn reductions_go_on_from_what_is_kept()
     ensures used { (passes_nan : Bool) (cs ds : List Seen) → used passes_nan (cs ++ ds) ≡ used passes_nan cs ++ used passes_nan ds }
     ensures whole { (r : Reduction) (a : Kind) (cs ds : List Seen) → reduced r a (cs ++ ds) ≡ reduction_result r a (more (fold_of r a) (more (fold_of r a) (start (fold_of r a)) (used (omits r) cs)) (used (omits r) ds)) }
     ensures joins { (p : PartFold) (cs ds : List Seen) → value_of p (cs ++ ds) ≡ joined p (value_of p cs) (value_of p ds) }
-    ensures in_any_order { (p : PartFold) (s t u : Value p) → joined p s (joined p t u) ≡ joined p (joined p s t) u }
-    ensures none { (p : PartFold) (s : Value p) → joined p (value_of p []) s ≡ s }
+    ensures associative { (p : PartFold) (s t u : Value p) → joined p s (joined p t u) ≡ joined p (joined p s t) u }
+    ensures none_before { (p : PartFold) (s : Value p) → joined p (value_of p []) s ≡ s }
+    ensures none_behind { (p : PartFold) (s : Value p) → joined p s (value_of p []) ≡ s }
 {}
 
 /// The first and the last rows of some rows and then others are among those of both parts.
