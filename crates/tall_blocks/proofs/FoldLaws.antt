@@ -56,12 +56,12 @@ less_all c d e p q = elim (true_or_false (is_lt (cell_order c e))) [
       absurd (cc)
 ]
 
--- the better of two by a test: associative where the test goes over both ways
-module _ (test : Seen → Seen → Bool) (both : (c d e : Seen) → test c d ≡ true → test d e ≡ true → test c e ≡ true) (neither : (c d e : Seen) → test c d ≡ false → test d e ≡ false → test c e ≡ false) where
-  abbrev better : Seen → Seen → Seen
+-- of two by a test: associative where the test goes over both ways
+module _ {A : Type 0} (test : A → A → Bool) (both : (c d e : A) → test c d ≡ true → test d e ≡ true → test c e ≡ true) (neither : (c d e : A) → test c d ≡ false → test d e ≡ false → test c e ≡ false) where
+  abbrev pub better : A → A → A
   better c d = if test c d then d else c
 
-  three : (c d e : Seen) (p q : Bool) → test c d ≡ p → test d e ≡ q → better (better c d) e ≡ better c (better d e)
+  three : (c d e : A) (p q : Bool) → test c d ≡ p → test d e ≡ q → better (better c d) e ≡ better c (better d e)
   three c d e true true p q =
       let a : test c e ≡ true = both c d e p q in
       ap (λ x. better x e) (if_true (test c d) d c p) ∙ (if_true (test d e) e d q ∙ sym (ap (better c) (if_true (test d e) e d q) ∙ if_true (test c e) e c a))
@@ -71,7 +71,7 @@ module _ (test : Seen → Seen → Bool) (both : (c d e : Seen) → test c d ≡
       let a : test c e ≡ false = neither c d e p q in
       ap (λ x. better x e) (if_false (test c d) d c p) ∙ (if_false (test c e) e c a ∙ sym (ap (better c) (if_false (test d e) e d q) ∙ if_false (test c d) d c p))
 
-  better_assoc : (c d e : Seen) → better (better c d) e ≡ better c (better d e)
+  pub better_assoc : (c d e : A) → better (better c d) e ≡ better c (better d e)
   better_assoc c d e = three c d e (test c d) (test d e) refl refl
 
 pub greater_assoc : (c d e : Seen) → greater (greater c d) e ≡ greater c (greater d e)

@@ -15,6 +15,8 @@ pub mod FoldLaws
 pub mod EndLaws
 pub mod DistinctLaws
 pub mod GroupLaws
+pub mod PieceLaws
+pub mod PieceCarryLaws
 pub mod PassWorkLaws
 pub mod SampleLaws
 pub mod BlockFoldLaws

@@ -38,16 +38,15 @@ same_length : (x y : Outcome) → numbers_in x ≡ numbers_in y → length (rows
 same_length x y e = sym (length-map (rows_in x) (λ (r : ℕ × Seen). r.0)) ∙ (ap length e ∙ length-map (rows_in y) (λ (r : ℕ × Seen). r.0))
 
 module _ (columns : Columns) (of_stores : ℕ → List ℕ) (vs : List Vertex) (f : ℕ → Tall) (store : ℕ) (cut : ℕ → Bool) (bs : List Block) (pass : IsBlockwise columns of_stores vs f store cut bs) where
-  can : AreCut f cut vs
+  pub can : AreCut f cut vs
   can = are_cut columns vs f cut store pass.meaning pass.of_store
 
   -- ---- spaces over a block
 
-  OneCarry : (ℕ → List Seen) → Type 0
+  abbrev pub OneCarry : (ℕ → List Seen) → Type 0
   OneCarry so_far = (i j : ℕ) (v w : Vertex) → slice_get vs i ≡ Some v → slice_get vs j ≡ Some w → cut i ≡ true → cut j ≡ true → (f i).shape.tree ≡ (f j).shape.tree → so_far i ≡ so_far j
 
   of_spaces : (b : Block) (so_far : ℕ → List Seen) → IsTable vs cut b → OneCarry so_far → AreOfSpaces (block_columns b) so_far vs f cut
-  unfolding OneCarry
   of_spaces b so_far table one = record {
     one_carry = one;
     cut_rows = λ i v e c. not_single store (f i).shape.space (pass.of_store.rows_here i v e c);
@@ -56,15 +55,13 @@ module _ (columns : Columns) (of_stores : ℕ → List ℕ) (vs : List Vertex) (
     same_numbers = table;
   }
 
-  start_one : OneCarry no_cells
-  unfolding OneCarry
+  pub start_one : OneCarry no_cells
   start_one i j v w e g c d t = refl
 
-  aligned_over : (b : Block) (so_far : ℕ → List Seen) (h : ℕ → Outcome) → IsTable vs cut b → OneCarry so_far → IsOver (block_columns b) so_far vs f cut h → AreAligned vs cut h
+  pub aligned_over : (b : Block) (so_far : ℕ → List Seen) (h : ℕ → Outcome) → IsTable vs cut b → OneCarry so_far → IsOver (block_columns b) so_far vs f cut h → AreAligned vs cut h
   aligned_over b so_far h table one over = aligned columns pass.meaning pass.ordered over can (of_spaces b so_far table one)
 
-  next_one : (b : Block) (so_far : ℕ → List Seen) (h : ℕ → Outcome) → IsTable vs cut b → OneCarry so_far → IsOver (block_columns b) so_far vs f cut h → OneCarry (next_cells vs h so_far)
-  unfolding OneCarry
+  pub next_one : (b : Block) (so_far : ℕ → List Seen) (h : ℕ → Outcome) → IsTable vs cut b → OneCarry so_far → IsOver (block_columns b) so_far vs f cut h → OneCarry (next_cells vs h so_far)
   next_one b so_far h table one over = next_carry columns pass.meaning pass.ordered over can (of_spaces b so_far table one)
 
   -- ---- block by block
@@ -75,7 +72,7 @@ module _ (columns : Columns) (of_stores : ℕ → List ℕ) (vs : List Vertex) (
       (whole_over columns vs f cut pass.meaning can (scans_take columns of_stores vs f pass.meaning pass.ordered pass.readings))
 
   module _ (P : ℕ → Type 0) (work : IsCutWork vs cut P) where
-    least_seen : (rest : List Block) (cs : List (Option Fault)) (so_far : ℕ → List Seen) → AreTables vs cut rest → OneCarry so_far → AreAscending rest → AreSeen vs f cut P so_far rest cs
+    pub least_seen : (rest : List Block) (cs : List (Option Fault)) (so_far : ℕ → List Seen) → AreTables vs cut rest → OneCarry so_far → AreAscending rest → AreSeen vs f cut P so_far rest cs
         → (h : ℕ → Outcome) → IsOver (block_columns (all_rows rest)) so_far vs f cut h → IsLeast (own_in vs (value_over f h)) P (least_fault cs)
     least_seen [] cs so_far tables one ascending seen h over = subst (λ xs. IsLeast (own_in vs (value_over f h)) P (least_fault xs)) (sym seen) (record {
       one = λ x e. absurd (cc);
@@ -94,7 +91,7 @@ module _ (columns : Columns) (of_stores : ℕ → List ℕ) (vs : List Vertex) (
     pub least_of_blocks : (cs : List (Option Fault)) → AreSeen vs f cut P no_cells bs cs → IsLeast (own_in vs f) P (least_fault cs)
     least_of_blocks cs seen = least_seen bs cs no_cells pass.tables start_one pass.ascending seen (λ i. (f i).outcome) whole
 
-  rows_over : (rest : List Block) (so_far : ℕ → List Seen) → AreTables vs cut rest → OneCarry so_far → (h : ℕ → Outcome) → IsOver (block_columns (all_rows rest)) so_far vs f cut h
+  pub rows_over : (rest : List Block) (so_far : ℕ → List Seen) → AreTables vs cut rest → OneCarry so_far → (h : ℕ → Outcome) → IsOver (block_columns (all_rows rest)) so_far vs f cut h
       → (i : ℕ) (v : Vertex) → slice_get vs i ≡ Some v → cut i ≡ true → fault_of (h i) ≡ None → h i ≡ rows (rows_of_blocks (block_outcomes vs f cut so_far rest) i)
   rows_over [] so_far tables one h over i v e c none = empty_rows over can pass.ordered i v e c
   rows_over (b ∷ rest) so_far tables one h over i v e c none =

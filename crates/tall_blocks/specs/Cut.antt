@@ -38,6 +38,11 @@ pub record IsCutWork (vs : List Vertex) (cut : ℕ → Bool) (P : ℕ → Type 0
 
 -- ---- by the space
 
+-- what is cut has rows of the datastore, and so is each operand of it that has them
+pub record IsOfRows (store : ℕ) (vs : List Vertex) (f : ℕ → Tall) (cut : ℕ → Bool) : Type 0 where
+  pub rows_here : (i : ℕ) (v : Vertex) → slice_get vs i ≡ Some v → cut i ≡ true → store_of (f i).shape.space ≡ Some store
+  pub operands_cut : (i a : ℕ) (v : Vertex) → slice_get vs i ≡ Some v → cut i ≡ true → IsAmong v.args a → store_of (f a).shape.space ≡ Some store → cut a ≡ true
+
 -- what is cut has rows of the datastore; each operand that has them is cut too, and a scalar among the operands is known
 -- and has no fault
 pub record AreOfStore (store : ℕ) (vs : List Vertex) (f : ℕ → Tall) (cut : ℕ → Bool) : Type 0 where

@@ -4,6 +4,7 @@ pub mod Blocks
 pub mod Cut
 pub mod ValuesOver
 pub mod SeenFaults
+pub mod Pieces
 pub mod PassWork
 pub mod Folds
 pub mod GroupsOver

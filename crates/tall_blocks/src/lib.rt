@@ -8,6 +8,7 @@ mod columns;
 mod laws;
 mod levels;
 mod parts;
+mod pieces;
 
 pub use columns::functions_of_columns_go_on_block_by_block;
 pub use laws::{
@@ -19,4 +20,7 @@ pub use parts::{
     distinct_cells_of_parts_give_the_distinct_cells, ends_of_parts_give_the_ends,
     groups_of_parts_give_the_groups, places_and_numbers_of_rows_agree,
     reductions_go_on_from_what_is_kept,
+};
+pub use pieces::{
+    a_block_is_computed_from_its_carries, the_least_fault_goes_from_block_to_block,
 };
