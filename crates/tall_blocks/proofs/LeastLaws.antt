@@ -30,7 +30,7 @@ path_place vs ordered a j (through i b l v e among d) =
     let more : l ≤ b = path_place vs ordered b l d in
     omega (arith, less, more)
 
-path_number : (vs : List Vertex) → IsOrdered vs → AreNumbered vs → (a j : ℕ) (u w : Vertex) → slice_get vs a ≡ Some u → slice_get vs j ≡ Some w → DependsOn vs a j → w.at.number ≤ u.at.number
+pub path_number : (vs : List Vertex) → IsOrdered vs → AreNumbered vs → (a j : ℕ) (u w : Vertex) → slice_get vs a ≡ Some u → slice_get vs j ≡ Some w → DependsOn vs a j → w.at.number ≤ u.at.number
 path_number vs ordered numbered a j u w e g (itself i) = (let q : u ≡ w = inside u w (sym e ∙ g) in let n : u.at.number ≡ w.at.number = ap (λ (x : Vertex). x.at.number) q in omega (arith, n))
 path_number vs ordered numbered a j u w e g (through i b l v d among rest) =
     let q : u ≡ v = inside u v (sym e ∙ d) in

@@ -20,4 +20,5 @@ pub mod PieceCarryLaws
 pub mod PassWorkLaws
 pub mod SampleLaws
 pub mod BlockFoldLaws
+pub mod GatheredLaws
 pub mod RowPlaceLaws

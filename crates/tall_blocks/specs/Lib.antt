@@ -9,6 +9,7 @@ pub mod PassWork
 pub mod Folds
 pub mod GroupsOver
 pub mod FoldsOfBlocks
+pub mod Gathered
 pub mod BlockSamples
 pub mod BlockRows
 pub mod CarryRows

@@ -1,43 +1,65 @@
 //! Laws of the pass over a datastore at one level, each the contract of a function without a body.
-ghost use Rattle.std.specs.Prelude.{◌≡◌, ◌+◌, ◌↔◌, ℕ, Bool, true, List, Option};
-ghost use Rattle.tall_semantics.specs.Faults.{Fault, least_fault};
+ghost use Rattle.std.specs.Prelude.{◌≡◌, ◌≤◌, ◌+◌, ◌⊎◌, ◌↔◌, ℕ, Bool, true, List, None, Option, Some, slice_get};
+ghost use Rattle.tall_semantics.specs.Faults.{Fault, earlier};
+ghost use Rattle.tall_semantics.specs.Spaces.{has_rows};
 ghost use Rattle.tall_semantics.specs.Talls.{Columns, Tall};
-ghost use Rattle.tall_semantics.specs.Deferred.{IsAmong, IsMeaning, Vertex, own_in};
-ghost use Rattle.tall_semantics.specs.Least.{IsLeast};
+ghost use Rattle.tall_semantics.specs.Deferred.{IsAmong, IsMeaning, Vertex, fault_in, own_in};
+ghost use Rattle.tall_semantics.specs.Least.{IsBelow, IsLeast};
 ghost use Rattle.tall_semantics.specs.Levels.{UpTo};
-ghost use Rattle.tall_semantics.specs.Numbered.{AreNumbered, IsGather, levels_in, nodes_by};
+ghost use Rattle.tall_semantics.specs.Numbered.{AreNumbered, IsGather, levels_in, nodes_by, number_at};
+ghost use Rattle.tall_semantics.specs.Plans.{is_scan_at};
 ghost use Rattle.tall_semantics.specs.Ranks.{ranks_in};
 ghost use Rattle.tall_semantics.specs.RowsOfSpaces.{AreColumns};
+ghost use Rattle.tall_semantics.specs.ScanLevels.{AreScans, scans_by};
 ghost use Rattle.tall_blocks.specs.Blocks.{AreAscending, AreBlocksOf, AreTables, Block};
-ghost use Rattle.tall_blocks.specs.Cut.{AreOfStore, IsCutWork};
-ghost use Rattle.tall_blocks.specs.PassWork.{AreScalarsLower, IsCutAt, IsWorkOf, cut_at};
-ghost use Rattle.tall_blocks.specs.SeenFaults.{AreSeen};
-ghost use Rattle.tall_blocks.specs.ValuesOver.{no_cells};
+ghost use Rattle.tall_blocks.specs.Cut.{IsCutWork, IsOfRows};
+ghost use Rattle.tall_blocks.specs.PassWork.{AreScalarsLower, IsCutAt, IsCutFor, IsEndOf, IsWorkOf, cut_at};
+ghost use Rattle.tall_blocks.specs.Pieces.{AreScansFree, fault_from, has_rows_of, pass_blocks};
+ghost use Rattle.tall_blocks.specs.SeenFaults.{IsBlockwise};
 
-/// The values of a pass are told by a test. By levels and by ranks a scalar that a value with rows is made of comes before
-/// the value's pass.
+/// All that a pass may compute is told by a test, and serves; all that has rows of a datastore has them with its operands. By levels and by ranks a scalar that a value with rows is made
+/// of comes before the value's pass.
 pub fn the_values_of_a_pass_are_told()
     ensures tested { (store : ℕ) (vs : List Vertex) (f : ℕ → Tall) (levels : ℕ → ℕ) (needed : List ℕ) (k : ℕ) (c : Option Fault) → IsCutAt store vs f levels needed k c (cut_at store vs f levels needed k c) }
+    ensures largest { (columns : Columns) (of_stores : ℕ → List ℕ) (vs : List Vertex) (f : ℕ → Tall) (levels carried : ℕ → ℕ) (roots needed : List ℕ) → IsGather columns vs f levels roots needed
+        → (store k : ℕ) (c : Option Fault) → (cut : ℕ → Bool) → IsCutAt store vs f levels needed (k + 1) c cut
+        → ((i a : ℕ) (v : Vertex) → is_scan_at (slice_get vs i) ≡ true → has_rows (f i).shape.space ≡ true → slice_get vs i ≡ Some v → IsAmong v.args a → levels a ≤ carried i) → IsCutFor store vs f levels carried needed (k + 1) c cut }
+    ensures rows { (store : ℕ) (vs : List Vertex) (f : ℕ → Tall) → IsOfRows store vs f (has_rows_of store f) }
     ensures levels { (columns : Columns) (vs : List Vertex) (f : ℕ → Tall) → IsMeaning columns vs f → AreScalarsLower vs f (levels_in f) }
     ensures ranks { (columns : Columns) (vs : List Vertex) (f : ℕ → Tall) → IsMeaning columns vs f → AreScalarsLower vs f (ranks_in vs f) }
 {}
 
-/// After the passes of the levels up to k, with the candidate c, the values of the next level's pass can be cut into
-/// blocks with all that they need of the lower levels; and the least own fault among them is that of the level's work over
-/// the datastore, since what stands below the level has none. So the least fault seen block by block is that of the work.
+/// After the passes of the levels up to k, with the candidate c, what the next level's pass computes can be cut into blocks,
+/// with all that its work needs of the lower levels. What stands below the level has no own fault, so the least fault that is
+/// found block by block is that of the level's work with rows of the datastore; what is cut and numbered below it has no fault,
+/// nor has the operand of a scan.
+/// The least fault of all work of the pass is the earlier of it and of those of the reductions, ends, distinct values and
+/// groups: of these only the ones numbered below it are looked at.
 pub fn a_pass_finds_the_fault_of_its_level()
-    ensures cut { (columns : Columns) (of_stores : ℕ → List ℕ) (vs : List Vertex) (f : ℕ → Tall) (levels : ℕ → ℕ) (roots needed : List ℕ) → IsGather columns vs f levels roots needed
-        → (store k : ℕ) (c : Option Fault) → IsLeast (own_in vs f) (UpTo (nodes_by vs f levels) (IsAmong needed) k) c → (cut : ℕ → Bool) → IsCutAt store vs f levels needed (k + 1) c cut
-        → AreColumns columns of_stores vs → AreScalarsLower vs f levels → AreOfStore store vs f cut }
-    ensures work { (columns : Columns) (of_stores : ℕ → List ℕ) (vs : List Vertex) (f : ℕ → Tall) (levels : ℕ → ℕ) (roots needed : List ℕ) → IsGather columns vs f levels roots needed
-        → (store k : ℕ) (c : Option Fault) → IsLeast (own_in vs f) (UpTo (nodes_by vs f levels) (IsAmong needed) k) c → (cut : ℕ → Bool) → IsCutAt store vs f levels needed (k + 1) c cut
-        → (work : List ℕ) → ((i : ℕ) → IsAmong work i ↔ (cut i ≡ true)) → IsCutWork vs cut (IsAmong work) }
-    ensures found { (columns : Columns) (of_stores : ℕ → List ℕ) (vs : List Vertex) (f : ℕ → Tall) (levels : ℕ → ℕ) (roots needed : List ℕ) → IsGather columns vs f levels roots needed
-        → (store k : ℕ) (c : Option Fault) → IsLeast (own_in vs f) (UpTo (nodes_by vs f levels) (IsAmong needed) k) c → (cut : ℕ → Bool) → IsCutAt store vs f levels needed (k + 1) c cut
-        → (work : List ℕ) → ((i : ℕ) → IsAmong work i ↔ (cut i ≡ true)) → (p : Option Fault) → IsLeast (own_in vs f) (IsAmong work) p ↔ IsLeast (own_in vs f) (IsWorkOf store vs f levels needed (k + 1) c) p }
-    ensures seen { (columns : Columns) (of_stores : ℕ → List ℕ) (vs : List Vertex) (f : ℕ → Tall) (levels : ℕ → ℕ) (roots needed : List ℕ) → IsGather columns vs f levels roots needed
-        → (store k : ℕ) (c : Option Fault) → IsLeast (own_in vs f) (UpTo (nodes_by vs f levels) (IsAmong needed) k) c → (cut : ℕ → Bool) → IsCutAt store vs f levels needed (k + 1) c cut
+    ensures blockwise { (columns : Columns) (of_stores : ℕ → List ℕ) (vs : List Vertex) (f : ℕ → Tall) (levels carried : ℕ → ℕ) (roots needed : List ℕ) → IsGather columns vs f levels roots needed
+        → (store k : ℕ) (c : Option Fault) → IsLeast (own_in vs f) (UpTo (nodes_by vs f levels) (IsAmong needed) k) c → (cut : ℕ → Bool) → IsCutFor store vs f levels carried needed (k + 1) c cut
         → AreNumbered vs → AreColumns columns of_stores vs → AreScalarsLower vs f levels → (bs : List Block) → AreBlocksOf columns vs cut bs → AreTables vs cut bs → AreAscending bs
-        → (work : List ℕ) → ((i : ℕ) → IsAmong work i ↔ (cut i ≡ true)) → (cs : List (Option Fault)) → AreSeen vs f cut (IsAmong work) no_cells bs cs
-        → IsLeast (own_in vs f) (IsWorkOf store vs f levels needed (k + 1) c) (least_fault cs) }
+        → IsBlockwise columns of_stores vs f store cut bs }
+    ensures work { (columns : Columns) (of_stores : ℕ → List ℕ) (vs : List Vertex) (f : ℕ → Tall) (levels carried : ℕ → ℕ) (roots needed : List ℕ) → IsGather columns vs f levels roots needed
+        → (store k : ℕ) (c : Option Fault) → IsLeast (own_in vs f) (UpTo (nodes_by vs f levels) (IsAmong needed) k) c → (cut : ℕ → Bool) → IsCutFor store vs f levels carried needed (k + 1) c cut
+        → (all : List ℕ) → ((i : ℕ) → IsAmong all i ↔ (cut i ≡ true)) → IsCutWork vs cut (IsAmong all) }
+    ensures found { (columns : Columns) (of_stores : ℕ → List ℕ) (vs : List Vertex) (f : ℕ → Tall) (levels carried : ℕ → ℕ) (roots needed : List ℕ) → IsGather columns vs f levels roots needed
+        → (store k : ℕ) (c : Option Fault) → IsLeast (own_in vs f) (UpTo (nodes_by vs f levels) (IsAmong needed) k) c → (cut : ℕ → Bool) → IsCutFor store vs f levels carried needed (k + 1) c cut
+        → (all : List ℕ) → ((i : ℕ) → IsAmong all i ↔ (cut i ≡ true)) → (p : Option Fault) → IsLeast (own_in vs f) (IsAmong all) p ↔ IsLeast (own_in vs f) (IsWorkOf store vs f levels needed (k + 1) c) p }
+    ensures seen { (columns : Columns) (of_stores : ℕ → List ℕ) (vs : List Vertex) (f : ℕ → Tall) (levels carried : ℕ → ℕ) (roots needed : List ℕ) → IsGather columns vs f levels roots needed
+        → (store k : ℕ) (c : Option Fault) → IsLeast (own_in vs f) (UpTo (nodes_by vs f levels) (IsAmong needed) k) c → (cut : ℕ → Bool) → IsCutFor store vs f levels carried needed (k + 1) c cut
+        → (all : List ℕ) → ((i : ℕ) → IsAmong all i ↔ (cut i ≡ true)) → AreNumbered vs → AreColumns columns of_stores vs → AreScalarsLower vs f levels → (bs : List Block) → AreBlocksOf columns vs cut bs → AreTables vs cut bs → AreAscending bs
+        → IsLeast (own_in vs f) (IsWorkOf store vs f levels needed (k + 1) c) (fault_from vs f all None (pass_blocks vs f cut bs)) }
+    ensures no_fault { (columns : Columns) (of_stores : ℕ → List ℕ) (vs : List Vertex) (f : ℕ → Tall) (levels carried : ℕ → ℕ) (roots needed : List ℕ) → IsGather columns vs f levels roots needed
+        → (store k : ℕ) (c : Option Fault) → IsLeast (own_in vs f) (UpTo (nodes_by vs f levels) (IsAmong needed) k) c → (cut : ℕ → Bool) → IsCutFor store vs f levels carried needed (k + 1) c cut
+        → (all : List ℕ) → ((i : ℕ) → IsAmong all i ↔ (cut i ≡ true)) → AreNumbered vs → AreColumns columns of_stores vs → AreScalarsLower vs f levels → (bs : List Block) → AreBlocksOf columns vs cut bs → AreTables vs cut bs → AreAscending bs
+        → (i : ℕ) → cut i ≡ true → IsBelow (fault_from vs f all None (pass_blocks vs f cut bs)) (number_at (slice_get vs i)) → fault_in f i ≡ None }
+    ensures scans { (columns : Columns) (of_stores : ℕ → List ℕ) (vs : List Vertex) (f : ℕ → Tall) (levels carried : ℕ → ℕ) (roots needed : List ℕ) → IsGather columns vs f levels roots needed
+        → (store k : ℕ) (c : Option Fault) → IsLeast (own_in vs f) (UpTo (nodes_by vs f levels) (IsAmong needed) k) c → (cut : ℕ → Bool) → IsCutFor store vs f levels carried needed (k + 1) c cut
+        → (all : List ℕ) → ((i : ℕ) → IsAmong all i ↔ (cut i ≡ true)) → AreScans vs (scans_by vs f carried) levels → AreScansFree vs f all }
+    ensures ends { (columns : Columns) (of_stores : ℕ → List ℕ) (vs : List Vertex) (f : ℕ → Tall) (levels carried : ℕ → ℕ) (roots needed : List ℕ) → IsGather columns vs f levels roots needed
+        → (store k : ℕ) (c : Option Fault) → IsLeast (own_in vs f) (UpTo (nodes_by vs f levels) (IsAmong needed) k) c → (cut : ℕ → Bool) → IsCutFor store vs f levels carried needed (k + 1) c cut
+        → (all : List ℕ) → ((i : ℕ) → IsAmong all i ↔ (cut i ≡ true)) → AreNumbered vs → AreColumns columns of_stores vs → AreScalarsLower vs f levels → (bs : List Block) → AreBlocksOf columns vs cut bs → AreTables vs cut bs → AreAscending bs
+        → (ends : List ℕ) → ((i : ℕ) → IsAmong ends i → IsEndOf store vs f levels needed (k + 1) c i) → ((i : ℕ) → IsEndOf store vs f levels needed (k + 1) c i → IsBelow (fault_from vs f all None (pass_blocks vs f cut bs)) (number_at (slice_get vs i)) → IsAmong ends i)
+        → (q : Option Fault) → IsLeast (own_in vs f) (IsAmong ends) q → IsLeast (own_in vs f) (λ i. IsWorkOf store vs f levels needed (k + 1) c i ⊎ IsEndOf store vs f levels needed (k + 1) c i) (earlier (fault_from vs f all None (pass_blocks vs f cut bs)) q) }
 {}

@@ -10,7 +10,9 @@ mod levels;
 mod parts;
 mod pieces;
 
-pub use columns::functions_of_columns_go_on_block_by_block;
+pub use columns::{
+    functions_of_columns_go_on_block_by_block, values_that_need_all_rows_go_on_block_by_block,
+};
 pub use laws::{
     a_carry_is_the_fold_before_the_block, a_pass_by_blocks_gives_the_values, a_value_has_the_rows_of_its_parts, premises_can_be_met,
     scans_go_on_from_a_carry, values_over_some_rows_exist,
