@@ -1,0 +1,43 @@
+//! Laws of the definitions, the contracts of functions without a body.
+ghost use Rattle.std.specs.Prelude.{◌≡◌, ◌<◌, ℕ, Bool, true, List, None, Option, Some, length, slice_get};
+ghost use Rattle.tall_outside.specs.Shelf.{Files};
+ghost use Rattle.tall_value.specs.declared.class.Class.{Class};
+ghost use Rattle.tall_cut.specs.Rows.{Fields};
+ghost use Rattle.tall_semantics.specs.Deferred.{Vertex};
+ghost use Rattle.tall_semantics.specs.Operations.{stored};
+ghost use Rattle.tall_semantics.specs.Outcomes.{fault};
+ghost use Rattle.tall_semantics.specs.Talls.{Columns, Tall};
+ghost use Rattle.tall_blocks.specs.Blocks.{AreAscending, AreBlocksOf, AreTables, IsVariable};
+ghost use Rattle.tall_store.specs.declared.faults.ReadingFault.{ReadingFault};
+ghost use Rattle.tall_store.specs.Blocks.{HasRows, IsCutting, all_blocks, blocks_from};
+ghost use Rattle.tall_store.specs.Stored.{first_fault};
+ghost use Rattle.tall_stored.specs.StoredColumns.{AreStored, Store, fault_of_reading, variable_class};
+ghost use Rattle.tall_stored_blocks.specs.StoredBlocks.{blocks_of, columns_of};
+
+/// The columns of a list of datastores are stored columns of each graph whose variables are theirs.
+pub fn columns_of_datastores_are_stored()
+    ensures { (files : Files) (stores : List Store) (vs : List Vertex)
+        → ((i : ℕ) (v : Vertex) (place variable : ℕ) (class : Class) → slice_get vs i ≡ Some v → v.made ≡ stored place variable class
+            → (d : Store) × (slice_get stores place ≡ Some d) × (v.at ≡ d.at) × (variable < length d.store.selected) × (class ≡ variable_class d.store variable))
+        → AreStored files stores vs (columns_of files stores) }
+{}
+
+/// However the records of each file are cut into blocks, these are blocks of the datastore's stored columns, where it has no
+/// reading fault: in each block its variables have equal row numbers, and the numbers ascend from block to block. The blocks
+/// of its ReadSize are such blocks. Where it has a reading fault, the first one is the outcome of each of its columns.
+pub fn blocks_of_files_are_blocks_of_columns()
+    ensures blocks { (files : Files) (stores : List Store) (vs : List Vertex) (columns : Columns) → AreStored files stores vs columns → (place : ℕ) (d : Store) → slice_get stores place ≡ Some d
+        → (cut : ℕ → Bool) → ((i : ℕ) (v : Vertex) (s a : ℕ) → slice_get vs i ≡ Some v → cut i ≡ true → IsVariable v.made s a → s ≡ place) → first_fault d.store files ≡ None
+        → (cutting : List Fields → List (List Fields)) → IsCutting cutting → AreBlocksOf columns vs cut (blocks_of d.store (blocks_from cutting d.store files 0 1 d.store.files)) }
+    ensures tables { (files : Files) (stores : List Store) (vs : List Vertex) (columns : Columns) → AreStored files stores vs columns → (place : ℕ) (d : Store) → slice_get stores place ≡ Some d
+        → (cut : ℕ → Bool) → ((i : ℕ) (v : Vertex) (s a : ℕ) → slice_get vs i ≡ Some v → cut i ≡ true → IsVariable v.made s a → s ≡ place) → first_fault d.store files ≡ None
+        → (cutting : List Fields → List (List Fields)) → IsCutting cutting → AreTables vs cut (blocks_of d.store (blocks_from cutting d.store files 0 1 d.store.files)) }
+    ensures ascending { (files : Files) (d : Store) → first_fault d.store files ≡ None
+        → (cutting : List Fields → List (List Fields)) → IsCutting cutting → AreAscending (blocks_of d.store (blocks_from cutting d.store files 0 1 d.store.files)) }
+    ensures sizes { (files : Files) (stores : List Store) (vs : List Vertex) (columns : Columns) → AreStored files stores vs columns → (place : ℕ) (d : Store) → slice_get stores place ≡ Some d
+        → (cut : ℕ → Bool) → ((i : ℕ) (v : Vertex) (s a : ℕ) → slice_get vs i ≡ Some v → cut i ≡ true → IsVariable v.made s a → s ≡ place) → first_fault d.store files ≡ None → HasRows d.store.size
+        → AreBlocksOf columns vs cut (blocks_of d.store (all_blocks d.store files)) × AreTables vs cut (blocks_of d.store (all_blocks d.store files)) × AreAscending (blocks_of d.store (all_blocks d.store files)) }
+    ensures reading { (files : Files) (stores : List Store) (vs : List Vertex) (columns : Columns) → AreStored files stores vs columns → (place : ℕ) (d : Store) → slice_get stores place ≡ Some d
+        → (g : ReadingFault) → first_fault d.store files ≡ Some g → (i : ℕ) (v : Vertex) (variable : ℕ) (class : Class) → slice_get vs i ≡ Some v → v.made ≡ stored place variable class
+        → columns place variable ≡ fault (fault_of_reading place d.at g) }
+{}
