@@ -18,6 +18,7 @@ pub mod GroupLaws
 pub mod PieceLaws
 pub mod PieceCarryLaws
 pub mod PassWorkLaws
+pub mod LevelWorkLaws
 pub mod SampleLaws
 pub mod BlockFoldLaws
 pub mod GatheredLaws

@@ -6,6 +6,7 @@ pub mod ValuesOver
 pub mod SeenFaults
 pub mod Pieces
 pub mod PassWork
+pub mod LevelWork
 pub mod Folds
 pub mod GroupsOver
 pub mod FoldsOfBlocks

@@ -9,6 +9,7 @@ mod laws;
 mod levels;
 mod parts;
 mod pieces;
+mod plans;
 
 pub use columns::{
     functions_of_columns_go_on_block_by_block, values_that_need_all_rows_go_on_block_by_block,
@@ -26,3 +27,4 @@ pub use parts::{
 pub use pieces::{
     a_block_is_computed_from_its_carries, the_least_fault_goes_from_block_to_block,
 };
+pub use plans::{passes_go_level_by_level, the_work_of_a_pass_is_that_of_its_level};
