@@ -1,4 +1,3 @@
-pub mod Lists
+pub use Rattle.tall_texts.proofs.Lists
 pub mod Narrowed
 pub mod RowLemmas
-pub mod TextLemmas

@@ -1,5 +1,4 @@
 pub mod Columns
-pub mod Texts
 pub mod Dense
 pub mod Ranges
 pub mod Rows

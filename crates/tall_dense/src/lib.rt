@@ -10,13 +10,12 @@ mod integer;
 mod loops;
 mod operand;
 mod stored;
-mod texts;
 mod values;
 
 pub use faults::OpFault;
 pub use integer::{Integer, Wide, difference, product, sum};
 pub use loops::{PairOperator, RowOperator, before, behind, each, pairs};
-pub use operand::{Beside, Operand};
+pub use operand::{Beside, Number, Operand};
 pub use stored::Stored;
-pub use texts::Texts;
+pub use tall_texts::Texts;
 pub use values::Values;

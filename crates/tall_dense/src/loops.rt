@@ -65,7 +65,7 @@ pub fn pairs<A: Stored, B: Stored, F: PairOperator<A, B>>(
     for row in 0..a.len() {
         match operator.of(a[row], b[row]) {
             Ok(value) => out.push_reserved(value),
-            Err(fault) => return Err(OpFault::At { row, fault }),
+            Err(reason) => return Err(OpFault::At { row, fault: reason }),
         }
     }
     Ok(out)

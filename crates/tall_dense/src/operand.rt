@@ -6,7 +6,7 @@ ghost use Rattle.tall_value.specs.CellOperators.{compared, comparison, truth};
 use crate::integer::{Integer, Wide};
 use std::marker::PhantomData;
 use tall_int::Whole;
-use tall_value::CellFault;
+use tall_value::{CellFault, IntKind};
 
 /// A value that an operator takes, no text.
 pub trait Operand: Copy {
@@ -68,10 +68,7 @@ impl Operand for Whole {
     ghost shown = { λ d. double d };
 
     fn amount(self) -> Option<i128> {
-        match self.get() {
-            Some(n) => Some(n as i128),
-            None => None,
-        }
+        self.get().map(i128::from)
     }
 
     fn truth(self) -> Result<bool, CellFault> {
@@ -97,6 +94,31 @@ pub struct Beside<I, W> {
 
 impl<I: Integer, W: Wide> Operand for Beside<I, W> {
     ghost shown = { λ s. whole I.KIND (W.value s.number) };
+
+    fn amount(self) -> Option<i128> {
+        Some(self.number.amount())
+    }
+
+    fn truth(self) -> Result<bool, CellFault> {
+        Ok(self.number.amount() != 0)
+    }
+
+    fn is_nan(self) -> bool {
+        false
+    }
+
+    ghost numeric = { λ x c. refl };
+}
+
+/// A number of an integer class beside values of another class.
+#[derive(Clone, Copy, Drop)]
+pub struct Number<W> {
+    pub kind: IntKind,
+    pub number: W,
+}
+
+impl<W: Wide> Operand for Number<W> {
+    ghost shown = { λ s. whole s.kind (W.value s.number) };
 
     fn amount(self) -> Option<i128> {
         Some(self.number.amount())

@@ -125,5 +125,6 @@ pub(crate) fn kept<T: Stored>(
     let mut out = Vec::from_slice(alloc, items)?;
     let count = gather(out.as_mut_slice(), items, mask);
     out.truncate(count);
+    out.shrink_to_fit();
     Ok(out)
 }

@@ -6,9 +6,9 @@ ghost use Rattle.tall_dense.specs.Columns.{class_of_cell, followed_by, rows_betw
 ghost use Rattle.tall_dense.specs.Dense.{shown};
 
 use crate::stored::{add, add_all, at, kept, part};
-use crate::texts::Texts;
 use std::alloc::{AllocError, Global};
 use tall_int::Whole;
+use tall_texts::Texts;
 use tall_value::{Cell, Class};
 
 /// The values of a column of each class.
@@ -45,6 +45,25 @@ impl Values {
             Class::Double => Values::Double(Vec::new(alloc)),
             Class::Text => Values::Text(Texts::new(alloc)),
         }
+    }
+
+    /// No values, of a class, with room for so many; texts have none.
+    pub fn with_capacity(alloc: Global, class: Class, rows: usize) -> Result<Values, AllocError>
+        ensures { IfOk result (λ v. shown v ≡ record { class = class; cells = [] }) }
+    {
+        Ok(match class {
+            Class::Int8 => Values::I8(Vec::with_capacity(alloc, rows)?),
+            Class::Int16 => Values::I16(Vec::with_capacity(alloc, rows)?),
+            Class::Int32 => Values::I32(Vec::with_capacity(alloc, rows)?),
+            Class::Int64 => Values::I64(Vec::with_capacity(alloc, rows)?),
+            Class::Uint8 => Values::U8(Vec::with_capacity(alloc, rows)?),
+            Class::Uint16 => Values::U16(Vec::with_capacity(alloc, rows)?),
+            Class::Uint32 => Values::U32(Vec::with_capacity(alloc, rows)?),
+            Class::Uint64 => Values::U64(Vec::with_capacity(alloc, rows)?),
+            Class::Logical => Values::Logical(Vec::with_capacity(alloc, rows)?),
+            Class::Double => Values::Double(Vec::with_capacity(alloc, rows)?),
+            Class::Text => Values::Text(Texts::new(alloc)),
+        })
     }
 
     /// The class.

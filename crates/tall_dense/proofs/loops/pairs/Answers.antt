@@ -30,7 +30,7 @@ returns-in-Err g c =
     let here = get-map g.A.Operand.shown c.args.a.now c.loop-row.row c.index-a-row.result (get_here c.args.a.now c.loop-row.row c.index-a-row.result c.loop-row-test.true c.index-a-row.is) in
     let there = get-map g.B.Operand.shown c.args.b.now c.loop-row.row c.index-b-row.result (get_here c.args.b.now c.loop-row.row c.index-b-row.result within c.index-b-row.is) in
     pair-results f 0 cells others
-    ∙ value_stops g.F.Out.Operand.shown (pair_results f cells others) c.loop-row.out.items c.loop-row.row c.in-Err.fault c.of.result c.loop-row.invariant.2
+    ∙ value_stops g.F.Out.Operand.shown (pair_results f cells others) c.loop-row.out.items c.loop-row.row c.in-Err.reason c.of.result c.loop-row.invariant.2
     (get-pairs f cells others c.loop-row.row _ _ here there ∙ ap Some (sym c.of.ensures)) c.in-Err.is
 
 pub returns : goal.returns
