@@ -3,3 +3,4 @@ pub mod ClassLemmas
 pub mod TableLemmas
 pub mod ScalarLemmas
 pub mod FirstCells
+pub mod CountedLemmas

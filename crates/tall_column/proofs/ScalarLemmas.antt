@@ -1,6 +1,6 @@
 -- A scalar that counts as a number of a column's class does what the number does.
-use Rattle.std.specs.Prelude.{ℤ, pos, int_le, unsigned_abs, not, ◌&&◌, ◌||◌, Bool, true, false, if◌then◌else◌, ◌==◌, Option, None, Some, option_map, Result, Ok}
-use Rattle.std.proofs.Common.{ℕ, ◌+◌, ◌≡◌, List, [], ◌∷◌, get_or, map, refl, sym, ◌∙◌, ap}
+use Rattle.std.specs.Prelude.{ℤ, ◌≤ℤ◌, pos, int_le, unsigned_abs, not, ◌&&◌, ◌||◌, Bool, true, false, if◌then◌else◌, ◌==◌, Option, None, Some, option_map, Result, Ok}
+use Rattle.std.proofs.Common.{ℕ, ◌+◌, ◌≡◌, List, [], ◌∷◌, get_or, map, refl, sym, ◌∙◌, ap, arith as arithmetic_facts}
 use Rattle.tall_int.specs.declared.operators.Arith.{Arith}
 use Rattle.tall_int.specs.declared.operators.Arith.TheVariants as arith
 use Rattle.tall_int.specs.Twos.{twos_and, twos_or, twos_xor}
@@ -10,13 +10,15 @@ use Rattle.tall_value.specs.declared.faults.CellFault.{CellFault}
 use Rattle.tall_value.specs.declared.operators.Binary.{Binary}
 use Rattle.tall_value.specs.declared.operators.Binary.TheVariants.{Add, Sub, Mul, Div, Modulo, Idivide, BitAnd, BitOr, BitXor, Eq, Ne, Lt, Le, Gt, Ge, StrCmp, And, Or}
 use Rattle.tall_value.specs.Cells.{Seen, whole, logical, double, text, amount, bit}
-use Rattle.tall_value.specs.CellOperators.{integer_side, in_class, converted, arithmetic, double_cell, of_doubles, as_double, bits, compared, comparison, equal, below, above, truth, joined, binary_cell}
+use Rattle.tall_value.specs.CellOperators.{integer_side, or_zero, in_class, converted, arithmetic, double_cell, of_doubles, as_double, bits, compared, comparison, equal, below, above, truth, joined, binary_cell}
 use Rattle.tall_value.specs.Columns.{numbered}
 use Rattle.tall_value.specs.Elementwise.{at_row, each_row, beside}
 use Rattle.std.proofs.lemmas.Bool.{eqb-true}
-use Rattle.tall_value.specs.Classes.{is_same, place}
+use Rattle.tall_value.specs.Classes.{is_same, place, least, greatest}
 use Rattle.tall_dense.specs.Ranges.{in_range}
-use Rattle.tall_column.specs.Scalars.{number_beside}
+use Rattle.std.proofs.lemmas.Int.{ints}
+use Rattle.tall_dense.proofs.Narrowed.{nearest_inside}
+use Rattle.tall_column.specs.Scalars.{number_beside, is_bits}
 
 -- ---- the number that a scalar counts as
 
@@ -69,7 +71,7 @@ in_range-is f low high n a h =
 -- ---- what an operator looks at in it
 
 -- what an operator looks at in two operands with an integer among them
-record Alike (k : IntKind) (x y v w : Seen) : Type 0 where
+pub record Alike (k : IntKind) (x y v w : Seen) : Type 0 where
   pub side : integer_side x y ≡ Some k
   pub other_side : integer_side v w ≡ Some k
   pub first : amount x ≡ amount v
@@ -100,7 +102,7 @@ bits-same op k x y v w a =
     bits-is op k x y a.side ∙ ap (λ n. Ok (whole k (op (converted k n) (converted k (amount y))))) a.first
     ∙ ap (λ n. Ok (whole k (op (converted k (amount v)) (converted k n)))) a.second ∙ sym (bits-is op k v w a.other_side)
 
-same_cell : (op : Binary) (k : IntKind) (x y v w : Seen) → Alike k x y v w → binary_cell op x y ≡ binary_cell op v w
+pub same_cell : (op : Binary) (k : IntKind) (x y v w : Seen) → Alike k x y v w → binary_cell op x y ≡ binary_cell op v w
 same_cell Add k x y v w a = arithmetic-same arith.Add k x y v w a
 same_cell Sub k x y v w a = arithmetic-same arith.Sub k x y v w a
 same_cell Mul k x y v w a = arithmetic-same arith.Mul k x y v w a
@@ -134,13 +136,13 @@ scalar_truth k n (double (Some v)) h = number_truth v n h.counts
 scalar_truth k n (double None) h = absurd (let no : ◌≡◌ {A = Option ℤ} None (Some n) = h.counts in cc)
 scalar_truth k n (text t) h = absurd h.beside
 
-before_alike : (k : IntKind) (n m : ℤ) (s : Seen) → StandsFor k n s → Alike k s (whole k m) (whole k n) (whole k m)
+pub before_alike : (k : IntKind) (n m : ℤ) (s : Seen) → StandsFor k n s → Alike k s (whole k m) (whole k n) (whole k m)
 before_alike k n m (whole j v) h = record { side = ap Some h.beside; other_side = refl; first = h.counts; second = refl; compares = ap (λ o. compared o (Some m)) h.counts; first_truth = scalar_truth k n (whole j v) h; second_truth = refl }
 before_alike k n m (logical b) h = record { side = refl; other_side = refl; first = h.counts; second = refl; compares = ap (λ o. compared o (Some m)) h.counts; first_truth = scalar_truth k n (logical b) h; second_truth = refl }
 before_alike k n m (double d) h = record { side = refl; other_side = refl; first = h.counts; second = refl; compares = ap (λ o. compared o (Some m)) h.counts; first_truth = scalar_truth k n (double d) h; second_truth = refl }
 before_alike k n m (text t) h = absurd h.beside
 
-behind_alike : (k : IntKind) (n m : ℤ) (s : Seen) → StandsFor k n s → Alike k (whole k m) s (whole k m) (whole k n)
+pub behind_alike : (k : IntKind) (n m : ℤ) (s : Seen) → StandsFor k n s → Alike k (whole k m) s (whole k m) (whole k n)
 behind_alike k n m (whole j v) h = record { side = refl; other_side = refl; first = refl; second = h.counts; compares = ap (λ o. compared (Some m) o) h.counts; first_truth = refl; second_truth = scalar_truth k n (whole j v) h }
 behind_alike k n m (logical b) h = record { side = refl; other_side = refl; first = refl; second = h.counts; compares = ap (λ o. compared (Some m) o) h.counts; first_truth = refl; second_truth = scalar_truth k n (logical b) h }
 behind_alike k n m (double d) h = record { side = refl; other_side = refl; first = refl; second = h.counts; compares = ap (λ o. compared (Some m) o) h.counts; first_truth = refl; second_truth = scalar_truth k n (double d) h }
@@ -150,18 +152,58 @@ beside_same : (op : Binary) (left : Bool) (k : IntKind) (n m : ℤ) (s : Seen) �
 beside_same op true k n m s h = same_cell op k s (whole k m) (whole k n) (whole k m) (before_alike k n m s h)
 beside_same op false k n m s h = same_cell op k (whole k m) s (whole k m) (whole k n) (behind_alike k n m s h)
 
-each_same : {A : Type 0} (shown : A → Seen) (f g : Seen → Result Seen CellFault) → ((a : A) → f (shown a) ≡ g (shown a))
-    → (i : ℕ) (items : List A) → each_row f (numbered i (map shown items)) ≡ each_row g (numbered i (map shown items))
-each_same shown f g same i [] = refl
-each_same shown f g same i (a ∷ items) =
-    ap (λ r. at_row i r (each_row f (numbered (i + 1) (map shown items)))) (same a)
-    ∙ ap (λ rest. at_row i (g (shown a)) rest) (each_same shown f g same (i + 1) items)
+-- rows that an operator takes alike
+pub each_alike : {A : Type 0} (s t : A → Seen) (f g : Seen → Result Seen CellFault) → ((a : A) → f (s a) ≡ g (t a))
+    → (i : ℕ) (items : List A) → each_row f (numbered i (map s items)) ≡ each_row g (numbered i (map t items))
+each_alike s t f g same i [] = refl
+each_alike s t f g same i (a ∷ items) =
+    ap (λ r. at_row i r (each_row f (numbered (i + 1) (map s items)))) (same a)
+    ∙ ap (λ rest. at_row i (g (t a)) rest) (each_alike s t f g same (i + 1) items)
 
 -- the rows beside a scalar are those beside the number that it counts as
 pub rows_beside : {A : Type 0} (shown : A → Seen) (number : A → ℤ) (op : Binary) (left : Bool) (k : IntKind) (n : ℤ) (s : Seen) (items : List A)
     → ((a : A) → shown a ≡ whole k (number a)) → StandsFor k n s
     → each_row (beside op left s) (numbered 0 (map shown items)) ≡ each_row (beside op left (whole k n)) (numbered 0 (map shown items))
 rows_beside shown number op left k n s items is h =
-    each_same shown (beside op left s) (beside op left (whole k n))
+    each_alike shown shown (beside op left s) (beside op left (whole k n))
     (λ a. ap (λ c. beside op left s c) (is a) ∙ beside_same op left k n (number a) s h ∙ ap (λ c. beside op left (whole k n) c) (sym (is a)))
+    0 items
+
+-- ---- a double that bits are taken of
+
+bits_cell : (op : Binary) (left : Bool) (k : IntKind) (m n : ℤ) (d : Option ℤ) → is_bits op ≡ true → converted k (Some n) ≡ converted k d
+    → beside op left (double d) (whole k m) ≡ beside op left (whole k n) (whole k m)
+bits_cell BitAnd true k m n d h e = ap (λ v. Ok (whole k (twos_and v (converted k (Some m))))) (sym e)
+bits_cell BitAnd false k m n d h e = ap (λ v. Ok (whole k (twos_and (converted k (Some m)) v))) (sym e)
+bits_cell BitOr true k m n d h e = ap (λ v. Ok (whole k (twos_or v (converted k (Some m))))) (sym e)
+bits_cell BitOr false k m n d h e = ap (λ v. Ok (whole k (twos_or (converted k (Some m)) v))) (sym e)
+bits_cell BitXor true k m n d h e = ap (λ v. Ok (whole k (twos_xor v (converted k (Some m))))) (sym e)
+bits_cell BitXor false k m n d h e = ap (λ v. Ok (whole k (twos_xor (converted k (Some m)) v))) (sym e)
+bits_cell Add left k m n d h e = absurd cc
+bits_cell Sub left k m n d h e = absurd cc
+bits_cell Mul left k m n d h e = absurd cc
+bits_cell Div left k m n d h e = absurd cc
+bits_cell Modulo left k m n d h e = absurd cc
+bits_cell (Idivide how) left k m n d h e = absurd cc
+bits_cell Eq left k m n d h e = absurd cc
+bits_cell Ne left k m n d h e = absurd cc
+bits_cell Lt left k m n d h e = absurd cc
+bits_cell Le left k m n d h e = absurd cc
+bits_cell Gt left k m n d h e = absurd cc
+bits_cell Ge left k m n d h e = absurd cc
+bits_cell StrCmp left k m n d h e = absurd cc
+bits_cell And left k m n d h e = absurd cc
+bits_cell Or left k m n d h e = absurd cc
+
+converted-twice : (k : IntKind) (d : Option ℤ) → least k ≤ℤ greatest k → converted k (Some (converted k d)) ≡ converted k d
+converted-twice k d h = nearest_inside (least k) (greatest k) (least k) (greatest k) (or_zero d) (omega (arithmetic_facts, ints)) h (omega (arithmetic_facts, ints))
+
+-- the rows beside the number of the class that the double becomes
+pub rows_of_bits : {A : Type 0} (shown : A → Seen) (number : A → ℤ) (op : Binary) (left : Bool) (k : IntKind) (n : ℤ) (d : Option ℤ) (items : List A)
+    → ((a : A) → shown a ≡ whole k (number a)) → is_bits op ≡ true → least k ≤ℤ greatest k → n ≡ converted k d
+    → each_row (beside op left (double d)) (numbered 0 (map shown items)) ≡ each_row (beside op left (whole k n)) (numbered 0 (map shown items))
+rows_of_bits shown number op left k n d items is bit ends nearest =
+    let same : converted k (Some n) ≡ converted k d = ap (λ m. converted k (Some m)) nearest ∙ converted-twice k d ends in
+    each_alike shown shown (beside op left (double d)) (beside op left (whole k n))
+    (λ a. ap (λ c. beside op left (double d) c) (is a) ∙ bits_cell op left k (number a) n d bit same ∙ ap (λ c. beside op left (whole k n) c) (sym (is a)))
     0 items

@@ -2,19 +2,23 @@
 //! at before it.
 ghost use Rattle.std.specs.Prelude.{◌≡◌, false, map, true};
 ghost use Rattle.tall_value.specs.Cells.{double, seen, whole};
+ghost use Rattle.tall_value.specs.CellOperators.{arithmetic};
 ghost use Rattle.tall_value.specs.Columns.{numbered};
 ghost use Rattle.tall_value.specs.Elementwise.{each_row, scalar_rows};
 ghost use Rattle.tall_column.specs.Mapped.{AnswersIfMade, with_scalar};
 
 use crate::binaries::made;
-use crate::comparisons::{AtLeast, AtMost, Different, Equal, Greater, Less};
-use crate::integers::{WideOperator, widely};
-use crate::logicals::{And, Or};
-use crate::{doubles, integers};
 use std::alloc::Global;
-use tall_dense::{Beside, Integer, OpFault, Operand, PairOperator, Stored, Values, before, behind};
-use tall_int::Whole;
-use tall_value::{Binary, Cell};
+use tall_dense::{
+    Beside, Integer, Number, OpFault, Operand, PairOperator, Stored, Values, Wide, before, behind,
+};
+use tall_int::{Arith, Whole};
+use tall_operators::comparisons::{AtLeast, AtMost, Different, Equal, Greater, Less};
+use tall_operators::doubles::Doubling;
+use tall_operators::integers::{OfDouble, WideOperator, WithDouble, widely};
+use tall_operators::logicals::{And, Or};
+use tall_operators::{doubles, integers};
+use tall_value::{Binary, Cell, Content, IntKind};
 
 /// The column of the operator at a scalar and each row.
 fn values_before<S: Operand, T: Stored, O: PairOperator<S, T>>(
@@ -102,7 +106,7 @@ fn compare_behind<T: Stored, S: Operand>(
 }
 
 /// A comparison, `&` or `|` of a column with a scalar, of its class or of another; none for another operator.
-fn compare_beside<T: Stored, S: Operand>(
+pub(crate) fn compare_beside<T: Stored, S: Operand>(
     alloc: Global,
     op: Binary,
     items: &[T],
@@ -189,28 +193,139 @@ pub(crate) fn wide_beside<I: Integer>(
     }
 }
 
-/// The operator on a column of doubles and a double; none where no loop does it.
-pub(crate) fn double_beside(
+/// The operator on a double or logical scalar and a column of doubles or logicals; none where no loop does it.
+fn double_before<S: Doubling, T: Doubling>(
     alloc: Global,
     op: Binary,
-    items: &[Whole],
+    scalar: S,
+    items: &[T],
+) -> Result<Option<Values>, OpFault>
+    ensures { AnswersIfMade (scalar_rows op true (S.shown scalar) (numbered 0 (map T.shown items.now))) result }
+{
+    match op {
+        Binary::Add => values_before(alloc, doubles::Sum, scalar, items),
+        Binary::Sub => values_before(alloc, doubles::Difference, scalar, items),
+        Binary::Mul => values_before(alloc, doubles::Product, scalar, items),
+        Binary::Div => values_before(alloc, doubles::Quotient, scalar, items),
+        Binary::Modulo => values_before(alloc, doubles::Remainder, scalar, items),
+        _ => compare_before(alloc, op, scalar, items),
+    }
+}
+
+/// The operator on a column of doubles or logicals and a double or logical scalar; none where no loop does it.
+fn double_behind<T: Doubling, S: Doubling>(
+    alloc: Global,
+    op: Binary,
+    items: &[T],
+    scalar: S,
+) -> Result<Option<Values>, OpFault>
+    ensures { AnswersIfMade (scalar_rows op false (S.shown scalar) (numbered 0 (map T.shown items.now))) result }
+{
+    match op {
+        Binary::Add => values_behind(alloc, doubles::Sum, items, scalar),
+        Binary::Sub => values_behind(alloc, doubles::Difference, items, scalar),
+        Binary::Mul => values_behind(alloc, doubles::Product, items, scalar),
+        Binary::Div => values_behind(alloc, doubles::Quotient, items, scalar),
+        Binary::Modulo => values_behind(alloc, doubles::Remainder, items, scalar),
+        _ => compare_behind(alloc, op, items, scalar),
+    }
+}
+
+/// The operator on a column of doubles or logicals and a double or logical scalar; none where no loop does it.
+pub(crate) fn double_beside<T: Doubling, S: Doubling>(
+    alloc: Global,
+    op: Binary,
+    items: &[T],
+    scalar: S,
+    scalar_left: bool,
+) -> Result<Option<Values>, OpFault>
+    ensures { AnswersIfMade (scalar_rows op scalar_left (S.shown scalar) (numbered 0 (map T.shown items.now))) result }
+{
+    if scalar_left {
+        double_before(alloc, op, scalar, items)
+    } else {
+        double_behind(alloc, op, items, scalar)
+    }
+}
+
+/// The column of an arithmetic operator of an integer class at each row and a double.
+fn mixed_values<I: Integer>(
+    alloc: Global,
+    op: Arith,
+    items: &[I],
     scalar: Whole,
     scalar_left: bool,
 ) -> Result<Option<Values>, OpFault>
-    ensures { AnswersIfMade (scalar_rows op scalar_left (double scalar) (numbered 0 (map (λ d. double d) items.now))) result }
+    ensures { AnswersIfMade (each_row (with_scalar (arithmetic op) scalar_left (double scalar)) (numbered 0 (map (λ x. whole I.KIND (I.number x)) items.now))) result }
+{
+    if scalar_left {
+        values_before(alloc, OfDouble { op }, scalar, items)
+    } else {
+        values_behind(alloc, WithDouble { op }, items, scalar)
+    }
+}
+
+/// The operator on a column of an integer class and a double, also NaN or a number outside the class; none where no loop
+/// does it.
+pub(crate) fn mixed_beside<I: Integer>(
+    alloc: Global,
+    op: Binary,
+    items: &[I],
+    scalar: Whole,
+    scalar_left: bool,
+) -> Result<Option<Values>, OpFault>
+    ensures { AnswersIfMade (scalar_rows op scalar_left (double scalar) (numbered 0 (map (λ x. whole I.KIND (I.number x)) items.now))) result }
 {
     match op {
-        Binary::Add => values_beside(alloc, doubles::Sum, items, scalar, scalar_left),
-        Binary::Sub => values_beside(alloc, doubles::Difference, items, scalar, scalar_left),
-        Binary::Mul => values_beside(alloc, doubles::Product, items, scalar, scalar_left),
-        Binary::Div => values_beside(alloc, doubles::Quotient, items, scalar, scalar_left),
-        Binary::Modulo => values_beside(alloc, doubles::Remainder, items, scalar, scalar_left),
+        Binary::Add => mixed_values(alloc, Arith::Add, items, scalar, scalar_left),
+        Binary::Sub => mixed_values(alloc, Arith::Sub, items, scalar, scalar_left),
+        Binary::Mul => mixed_values(alloc, Arith::Mul, items, scalar, scalar_left),
+        Binary::Div => mixed_values(alloc, Arith::Div, items, scalar, scalar_left),
+        Binary::Modulo => mixed_values(alloc, Arith::Modulo, items, scalar, scalar_left),
+        Binary::Idivide(how) => {
+            mixed_values(alloc, Arith::Idivide(how), items, scalar, scalar_left)
+        }
         _ => compare_beside(alloc, op, items, scalar, scalar_left),
     }
 }
 
-/// A comparison, `&` or `|` of a column and a logical or double scalar; none for another operator or scalar.
-pub(crate) fn compare_with_scalar<T: Stored>(
+/// A comparison, `&` or `|` of a column and a number of an integer class that 64 bits don't hold with a sign; none for
+/// another operator.
+fn compare_with_large<T: Stored>(
+    alloc: Global,
+    op: Binary,
+    items: &[T],
+    kind: IntKind,
+    n: i128,
+    scalar_left: bool,
+) -> Result<Option<Values>, OpFault>
+    ensures { AnswersIfMade (scalar_rows op scalar_left (whole kind n) (numbered 0 (map T.shown items.now))) result }
+{
+    match u64::of(n) {
+        Some(number) => compare_beside(alloc, op, items, Number { kind, number }, scalar_left),
+        None => Ok(None),
+    }
+}
+
+/// A comparison, `&` or `|` of a column and a number of an integer class; none for another operator.
+fn compare_with_number<T: Stored>(
+    alloc: Global,
+    op: Binary,
+    items: &[T],
+    kind: IntKind,
+    n: i128,
+    scalar_left: bool,
+) -> Result<Option<Values>, OpFault>
+    ensures { AnswersIfMade (scalar_rows op scalar_left (whole kind n) (numbered 0 (map T.shown items.now))) result }
+{
+    match i64::of(n) {
+        Some(number) => compare_beside(alloc, op, items, Number { kind, number }, scalar_left),
+        None => compare_with_large(alloc, op, items, kind, n, scalar_left),
+    }
+}
+
+/// A comparison, `&` or `|` of a column and a scalar of an integer class; none for another operator or scalar.
+pub(crate) fn compare_with_integer<T: Stored>(
     alloc: Global,
     op: Binary,
     items: &[T],
@@ -219,9 +334,8 @@ pub(crate) fn compare_with_scalar<T: Stored>(
 ) -> Result<Option<Values>, OpFault>
     ensures { AnswersIfMade (scalar_rows op scalar_left (seen scalar.now) (numbered 0 (map T.shown items.now))) result }
 {
-    match *scalar {
-        Cell::Logical(b) => compare_beside(alloc, op, items, b, scalar_left),
-        Cell::Double(d) => compare_beside(alloc, op, items, d, scalar_left),
+    match scalar.content() {
+        Content::Whole(kind, n) => compare_with_number(alloc, op, items, kind, n, scalar_left),
         _ => Ok(None),
     }
 }

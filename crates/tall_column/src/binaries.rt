@@ -1,20 +1,22 @@
 //! Operators of two operands on columns of one class, each in a loop over the values: the operator and the class are
 //! looked at before it.
 ghost use Rattle.std.specs.Prelude.{◌≡◌, length, map};
-ghost use Rattle.tall_value.specs.Cells.{double, whole};
+ghost use Rattle.tall_value.specs.Cells.{double, logical, whole};
 ghost use Rattle.tall_value.specs.Columns.{numbered};
 ghost use Rattle.tall_value.specs.Elementwise.{binary_rows, each_pair};
 ghost use Rattle.tall_dense.specs.Dense.{shown};
 ghost use Rattle.tall_dense.specs.Rows.{Answers};
 ghost use Rattle.tall_column.specs.Mapped.{AnswersIfMade};
 
-use crate::comparisons::{AtLeast, AtMost, Different, Equal, Greater, Less};
-use crate::integers::widely;
-use crate::logicals::{And, Or};
-use crate::{doubles, integers};
+use crate::counted::{counted_before, counted_behind};
 use std::alloc::Global;
 use tall_dense::{Integer, OpFault, PairOperator, Stored, Values, pairs};
 use tall_int::Whole;
+use tall_operators::comparisons::{AtLeast, AtMost, Different, Equal, Greater, Less};
+use tall_operators::doubles::Doubling;
+use tall_operators::integers::widely;
+use tall_operators::logicals::{And, Or};
+use tall_operators::{doubles, integers};
 use tall_value::Binary;
 
 /// The values of a column.
@@ -64,7 +66,7 @@ fn compare_pairs<A: Stored, B: Stored>(
 }
 
 /// The operator on two columns of an integer class; none where no loop does it.
-fn integer_pairs<I: Integer>(
+pub(crate) fn integer_pairs<I: Integer>(
     alloc: Global,
     op: Binary,
     a: &[I],
@@ -87,15 +89,15 @@ fn integer_pairs<I: Integer>(
     }
 }
 
-/// The operator on two columns of doubles; none where no loop does it.
-fn double_pairs(
+/// The operator on two columns of doubles or logicals; none where no loop does it.
+fn double_pairs<A: Doubling, B: Doubling>(
     alloc: Global,
     op: Binary,
-    a: &[Whole],
-    b: &[Whole],
+    a: &[A],
+    b: &[B],
 ) -> Result<Option<Values>, OpFault>
-    requires { length (map (λ d. double d) b.now) ≡ length (map (λ d. double d) a.now) }
-    ensures { AnswersIfMade (binary_rows op (numbered 0 (map (λ d. double d) a.now)) (numbered 0 (map (λ d. double d) b.now))) result }
+    requires { length (map B.shown b.now) ≡ length (map A.shown a.now) }
+    ensures { AnswersIfMade (binary_rows op (numbered 0 (map A.shown a.now)) (numbered 0 (map B.shown b.now))) result }
 {
     match op {
         Binary::Add => pair_values(alloc, doubles::Sum, a, b),
@@ -132,22 +134,80 @@ fn compare_with<A: Stored>(
     }
 }
 
+/// The operator on a column of an integer class and one of any class; none where no loop does it.
+fn integer_with<I: Integer>(
+    alloc: Global,
+    op: Binary,
+    a: &[I],
+    b: &Values,
+) -> Result<Option<Values>, OpFault>
+    requires { length (shown b.now).cells ≡ length (map (λ x. whole I.KIND (I.number x)) a.now) }
+    ensures { AnswersIfMade (binary_rows op (numbered 0 (map (λ x. whole I.KIND (I.number x)) a.now)) (numbered 0 (shown b.now).cells)) result }
+{
+    match b {
+        Values::Logical(b) => counted_behind(alloc, op, a, b.as_slice()),
+        _ => compare_with(alloc, op, a, b),
+    }
+}
+
+/// The operator on a logical column and one of any class; none where no loop does it.
+fn logical_with(
+    alloc: Global,
+    op: Binary,
+    a: &[bool],
+    b: &Values,
+) -> Result<Option<Values>, OpFault>
+    requires { length (shown b.now).cells ≡ length (map (λ m. logical m) a.now) }
+    ensures { AnswersIfMade (binary_rows op (numbered 0 (map (λ m. logical m) a.now)) (numbered 0 (shown b.now).cells)) result }
+{
+    match b {
+        Values::I8(b) => counted_before(alloc, op, a, b.as_slice()),
+        Values::I16(b) => counted_before(alloc, op, a, b.as_slice()),
+        Values::I32(b) => counted_before(alloc, op, a, b.as_slice()),
+        Values::I64(b) => counted_before(alloc, op, a, b.as_slice()),
+        Values::U8(b) => counted_before(alloc, op, a, b.as_slice()),
+        Values::U16(b) => counted_before(alloc, op, a, b.as_slice()),
+        Values::U32(b) => counted_before(alloc, op, a, b.as_slice()),
+        Values::U64(b) => counted_before(alloc, op, a, b.as_slice()),
+        Values::Logical(b) => double_pairs(alloc, op, a, b.as_slice()),
+        Values::Double(b) => double_pairs(alloc, op, a, b.as_slice()),
+        Values::Text(_) => Ok(None),
+    }
+}
+
+/// The operator on a column of doubles and one of any class; none where no loop does it.
+fn double_with(
+    alloc: Global,
+    op: Binary,
+    a: &[Whole],
+    b: &Values,
+) -> Result<Option<Values>, OpFault>
+    requires { length (shown b.now).cells ≡ length (map (λ d. double d) a.now) }
+    ensures { AnswersIfMade (binary_rows op (numbered 0 (map (λ d. double d) a.now)) (numbered 0 (shown b.now).cells)) result }
+{
+    match b {
+        Values::Logical(b) => double_pairs(alloc, op, a, b.as_slice()),
+        Values::Double(b) => double_pairs(alloc, op, a, b.as_slice()),
+        _ => compare_with(alloc, op, a, b),
+    }
+}
+
 /// The operator on two columns of two classes; none where no loop does it.
 fn mixed_pairs(alloc: Global, op: Binary, a: &Values, b: &Values) -> Result<Option<Values>, OpFault>
     requires { length (shown b.now).cells ≡ length (shown a.now).cells }
     ensures { AnswersIfMade (binary_rows op (numbered 0 (shown a.now).cells) (numbered 0 (shown b.now).cells)) result }
 {
     match a {
-        Values::I8(a) => compare_with(alloc, op, a.as_slice(), b),
-        Values::I16(a) => compare_with(alloc, op, a.as_slice(), b),
-        Values::I32(a) => compare_with(alloc, op, a.as_slice(), b),
-        Values::I64(a) => compare_with(alloc, op, a.as_slice(), b),
-        Values::U8(a) => compare_with(alloc, op, a.as_slice(), b),
-        Values::U16(a) => compare_with(alloc, op, a.as_slice(), b),
-        Values::U32(a) => compare_with(alloc, op, a.as_slice(), b),
-        Values::U64(a) => compare_with(alloc, op, a.as_slice(), b),
-        Values::Logical(a) => compare_with(alloc, op, a.as_slice(), b),
-        Values::Double(a) => compare_with(alloc, op, a.as_slice(), b),
+        Values::I8(a) => integer_with(alloc, op, a.as_slice(), b),
+        Values::I16(a) => integer_with(alloc, op, a.as_slice(), b),
+        Values::I32(a) => integer_with(alloc, op, a.as_slice(), b),
+        Values::I64(a) => integer_with(alloc, op, a.as_slice(), b),
+        Values::U8(a) => integer_with(alloc, op, a.as_slice(), b),
+        Values::U16(a) => integer_with(alloc, op, a.as_slice(), b),
+        Values::U32(a) => integer_with(alloc, op, a.as_slice(), b),
+        Values::U64(a) => integer_with(alloc, op, a.as_slice(), b),
+        Values::Logical(a) => logical_with(alloc, op, a.as_slice(), b),
+        Values::Double(a) => double_with(alloc, op, a.as_slice(), b),
         Values::Text(_) => Ok(None),
     }
 }
@@ -171,12 +231,6 @@ pub(crate) fn column_pairs(
         (Values::U16(a), Values::U16(b)) => integer_pairs(alloc, op, a.as_slice(), b.as_slice()),
         (Values::U32(a), Values::U32(b)) => integer_pairs(alloc, op, a.as_slice(), b.as_slice()),
         (Values::U64(a), Values::U64(b)) => integer_pairs(alloc, op, a.as_slice(), b.as_slice()),
-        (Values::Double(a), Values::Double(b)) => double_pairs(
-            alloc,
-            op,
-            a.as_slice(),
-            b.as_slice(),
-        ),
         _ => mixed_pairs(alloc, op, a, b),
     }
 }

@@ -38,6 +38,16 @@ impl Column {
         }
     }
 
+    /// A column of no rows, with room for so many; a column of texts has none.
+    pub fn with_capacity(alloc: Global, class: Class, rows: usize) -> Result<Column, AllocError>
+        ensures { IfOk result (λ c. c ≡ record { class = class; cells = [] }) }
+    {
+        Ok(Column {
+            values: Values::with_capacity(alloc, class, rows)?,
+            alloc,
+        })
+    }
+
     /// The column of values, which are not copied.
     pub fn of_values(alloc: Global, values: Values) -> Column
         ensures { result ≡ shown values }

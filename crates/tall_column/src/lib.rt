@@ -7,10 +7,7 @@
 mod beside;
 mod binaries;
 mod column;
-mod comparisons;
-mod doubles;
-mod integers;
-mod logicals;
+mod counted;
 mod rows;
 mod scalars;
 mod table;

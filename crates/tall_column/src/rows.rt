@@ -50,7 +50,7 @@ pub fn map_unary(alloc: Global, op: Unary, a: &Column) -> Result<Column, OpFault
     if let Some(values) = column_each(alloc, op, a.values())? {
         return Ok(Column::of_values(alloc, values));
     }
-    let mut out = Column::new(alloc, class);
+    let mut out = Column::with_capacity(alloc, class, a.len())?;
     add_unary(&mut out, op, a)?;
     Ok(out)
 }
@@ -89,7 +89,7 @@ pub fn map_binary(alloc: Global, op: Binary, a: &Column, b: &Column) -> Result<C
     if let Some(values) = column_pairs(alloc, op, a.values(), b.values())? {
         return Ok(Column::of_values(alloc, values));
     }
-    let mut out = Column::new(alloc, class);
+    let mut out = Column::with_capacity(alloc, class, a.len())?;
     add_binary(&mut out, op, a, b)?;
     Ok(out)
 }
@@ -168,7 +168,7 @@ pub fn map_scalar(
     if let Some(values) = column_beside(alloc, op, a.values(), b, scalar_left)? {
         return Ok(Column::of_values(alloc, values));
     }
-    let mut out = Column::new(alloc, class);
+    let mut out = Column::with_capacity(alloc, class, a.len())?;
     add_scalar(&mut out, op, a, b, scalar_left)?;
     Ok(out)
 }

@@ -1,6 +1,6 @@
 //! Operators of one operand on columns of one class, each in a loop over the values.
 ghost use Rattle.std.specs.Prelude.{◌≡◌, map};
-ghost use Rattle.tall_value.specs.Cells.{double, whole};
+ghost use Rattle.tall_value.specs.Cells.{whole};
 ghost use Rattle.tall_value.specs.CellOperators.{to_integer};
 ghost use Rattle.tall_value.specs.Columns.{numbered};
 ghost use Rattle.tall_value.specs.Elementwise.{each_row, unary_rows};
@@ -8,31 +8,14 @@ ghost use Rattle.tall_dense.specs.Dense.{shown};
 ghost use Rattle.tall_column.specs.Mapped.{AnswersIfMade};
 
 use crate::binaries::made;
-use crate::logicals::{IsNan, Not, ToLogical};
-use crate::{doubles, integers};
 use std::alloc::Global;
 use std::marker::PhantomData;
-use tall_dense::{Integer, OpFault, Operand, RowOperator, Stored, Values, each};
-use tall_int::{Whole, clamp};
-use tall_value::{CellFault, Unary};
-
-/// `int8(x)` and its kin.
-struct To<I> {
-    class: PhantomData<I>,
-}
-
-impl<I: Integer, T: Operand> RowOperator<T> for To<I> {
-    type Out = I;
-
-    ghost gives = { λ _. to_integer I.KIND };
-
-    fn of(&self, a: T) -> Result<I, CellFault> {
-        Ok(match a.amount() {
-            Some(n) => clamp(n),
-            None => clamp(0),
-        })
-    }
-}
+use tall_dense::{Integer, OpFault, RowOperator, Stored, Values, each};
+use tall_operators::doubles::Doubling;
+use tall_operators::integers::To;
+use tall_operators::logicals::{IsNan, Not, ToLogical};
+use tall_operators::{doubles, integers};
+use tall_value::Unary;
 
 /// The column of the operator at each row.
 fn each_value<T: Stored, F: RowOperator<T>>(
@@ -89,9 +72,9 @@ fn each_integer<I: Integer>(
     }
 }
 
-/// The operators of a column of doubles.
-fn each_double(alloc: Global, op: Unary, items: &[Whole]) -> Result<Option<Values>, OpFault>
-    ensures { AnswersIfMade (unary_rows op (numbered 0 (map (λ d. double d) items.now))) result }
+/// The operators of a column of doubles, or of logicals, whose signs are doubles.
+fn each_double<T: Doubling>(alloc: Global, op: Unary, items: &[T]) -> Result<Option<Values>, OpFault>
+    ensures { AnswersIfMade (unary_rows op (numbered 0 (map T.shown items.now))) result }
 {
     match op {
         Unary::Neg => each_value(alloc, &doubles::Opposite, items),
@@ -114,7 +97,7 @@ pub(crate) fn column_each(alloc: Global, op: Unary, a: &Values) -> Result<Option
         Values::U16(a) => each_integer(alloc, op, a.as_slice()),
         Values::U32(a) => each_integer(alloc, op, a.as_slice()),
         Values::U64(a) => each_integer(alloc, op, a.as_slice()),
-        Values::Logical(a) => converted(alloc, op, a.as_slice()),
+        Values::Logical(a) => each_double(alloc, op, a.as_slice()),
         Values::Double(a) => each_double(alloc, op, a.as_slice()),
         Values::Text(_) => Ok(None),
     }

@@ -9,7 +9,7 @@ use tall_value::CellFault;
 
 /// `a & b`; both are looked at, whatever the first one is.
 #[derive(Clone, Copy)]
-pub(crate) struct And;
+pub struct And;
 
 impl<A: Operand, B: Operand> PairOperator<A, B> for And {
     type Out = bool;
@@ -25,7 +25,7 @@ impl<A: Operand, B: Operand> PairOperator<A, B> for And {
 
 /// `a | b`; both are looked at, whatever the first one is.
 #[derive(Clone, Copy)]
-pub(crate) struct Or;
+pub struct Or;
 
 impl<A: Operand, B: Operand> PairOperator<A, B> for Or {
     type Out = bool;
@@ -40,7 +40,7 @@ impl<A: Operand, B: Operand> PairOperator<A, B> for Or {
 }
 
 /// `~x`
-pub(crate) struct Not;
+pub struct Not;
 
 impl<T: Operand> RowOperator<T> for Not {
     type Out = bool;
@@ -54,7 +54,7 @@ impl<T: Operand> RowOperator<T> for Not {
 }
 
 /// `logical(x)`
-pub(crate) struct ToLogical;
+pub struct ToLogical;
 
 impl<T: Operand> RowOperator<T> for ToLogical {
     type Out = bool;
@@ -68,7 +68,7 @@ impl<T: Operand> RowOperator<T> for ToLogical {
 }
 
 /// `isnan(x)`
-pub(crate) struct IsNan;
+pub struct IsNan;
 
 impl<T: Operand> RowOperator<T> for IsNan {
     type Out = bool;

@@ -16,7 +16,7 @@ fn order<A: Operand, B: Operand>(a: A, b: B) -> Option<Ordering>
 
 /// `==`
 #[derive(Clone, Copy)]
-pub(crate) struct Equal;
+pub struct Equal;
 
 impl<A: Operand, B: Operand> PairOperator<A, B> for Equal {
     type Out = bool;
@@ -31,7 +31,7 @@ impl<A: Operand, B: Operand> PairOperator<A, B> for Equal {
 
 /// `~=`
 #[derive(Clone, Copy)]
-pub(crate) struct Different;
+pub struct Different;
 
 impl<A: Operand, B: Operand> PairOperator<A, B> for Different {
     type Out = bool;
@@ -46,7 +46,7 @@ impl<A: Operand, B: Operand> PairOperator<A, B> for Different {
 
 /// `<`
 #[derive(Clone, Copy)]
-pub(crate) struct Less;
+pub struct Less;
 
 impl<A: Operand, B: Operand> PairOperator<A, B> for Less {
     type Out = bool;
@@ -61,7 +61,7 @@ impl<A: Operand, B: Operand> PairOperator<A, B> for Less {
 
 /// `<=`
 #[derive(Clone, Copy)]
-pub(crate) struct AtMost;
+pub struct AtMost;
 
 impl<A: Operand, B: Operand> PairOperator<A, B> for AtMost {
     type Out = bool;
@@ -76,7 +76,7 @@ impl<A: Operand, B: Operand> PairOperator<A, B> for AtMost {
 
 /// `>`
 #[derive(Clone, Copy)]
-pub(crate) struct Greater;
+pub struct Greater;
 
 impl<A: Operand, B: Operand> PairOperator<A, B> for Greater {
     type Out = bool;
@@ -91,7 +91,7 @@ impl<A: Operand, B: Operand> PairOperator<A, B> for Greater {
 
 /// `>=`
 #[derive(Clone, Copy)]
-pub(crate) struct AtLeast;
+pub struct AtLeast;
 
 impl<A: Operand, B: Operand> PairOperator<A, B> for AtLeast {
     type Out = bool;

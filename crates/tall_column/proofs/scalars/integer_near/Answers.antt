@@ -7,7 +7,7 @@ use Rattle.tall_value.specs.Cells.{seen, whole}
 use Rattle.tall_column.specs.Mapped.{AnswersIfMade}
 use Rattle.tall_column.specs.Scalars.{number_beside}
 use Rattle.tall_column.proofs.ScalarLemmas.{rows_beside, stands}
-use Rattle.tall_column.proofs.scalars.integer_with_scalar.Goals as goal
+use Rattle.tall_column.proofs.scalars.integer_near.Goals as goal
 
 pub returns-in-Some : goal.returns-in-Some
 returns-in-Some g c =

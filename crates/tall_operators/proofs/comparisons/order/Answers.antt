@@ -1,7 +1,7 @@
 use Rattle.std.proofs.Common.{sym, ap, ◌∙◌}
 use Rattle.tall_value.specs.Cells.{amount}
 use Rattle.tall_value.specs.CellOperators.{compared}
-use Rattle.tall_column.proofs.comparisons.order.Goals as goal
+use Rattle.tall_operators.proofs.comparisons.order.Goals as goal
 
 pub returns : goal.returns
 returns g c =
