@@ -4,6 +4,8 @@ use Rattle.tall_value.specs.declared.class.Class.{Class}
 use Rattle.tall_value.specs.declared.faults.CellFault.{CellFault}
 use Rattle.tall_value.specs.declared.faults.ClassFault.{ClassFault}
 use Rattle.tall_value.specs.declared.operators.Binary.{Binary}
+use Rattle.tall_value.specs.declared.operators.Unary.{Unary}
+use Rattle.tall_value.specs.declared.operators.Unary.TheVariants.{Neg, Plus, Abs}
 use Rattle.tall_value.specs.Cells.{Seen}
 use Rattle.tall_value.specs.ClassTables.{binary_class}
 use Rattle.tall_value.specs.Columns.{numbered}
@@ -28,3 +30,10 @@ AnswersIfMade rows (Err Memory) = Unit {0}
 -- an operator of a scalar and a cell
 abbrev pub with_scalar : (Seen → Seen → Result Seen CellFault) → Bool → Seen → Seen → Result Seen CellFault
 with_scalar op scalar_left scalar c = if scalar_left then op scalar c else op c scalar
+
+-- an operator of one operand that is no sign: a conversion, `~` or `isnan`
+abbrev pub IsConversion : Unary → Type 0
+IsConversion Neg = ⊥
+IsConversion Plus = ⊥
+IsConversion Abs = ⊥
+IsConversion op = Unit {0}

@@ -20,6 +20,16 @@ use tall_operators::{doubles, integers};
 use tall_value::Binary;
 
 /// The values of a column.
+pub(crate) fn values_of<T: Stored>(computed: Result<Vec<T>, OpFault>) -> Result<Values, OpFault>
+    ensures { (rows : _) → Answers rows (λ v. map T.shown v.items) computed → Answers rows (λ v. (shown v).cells) result }
+{
+    match computed {
+        Ok(items) => Ok(T::values(items)),
+        Err(fault) => Err(fault),
+    }
+}
+
+/// The values of a column.
 pub(crate) fn made<T: Stored>(computed: Result<Vec<T>, OpFault>) -> Result<Option<Values>, OpFault>
     ensures { (rows : _) → Answers rows (λ v. map T.shown v.items) computed → AnswersIfMade rows result }
 {

@@ -16,24 +16,8 @@ use crate::unaries::column_each;
 use std::alloc::Global;
 use tall_dense::OpFault;
 use tall_value::{
-    Binary, Cell, CellFault, Class, ClassFault, Unary, binary, result_class, unary, unary_class,
+    Binary, Cell, CellFault, Class, ClassFault, Unary, binary, result_class, unary_class,
 };
-
-/// Adds the results row by row.
-fn add_unary(out: &mut Column, op: Unary, a: &Column) -> Result<(), OpFault>
-    requires empty { out.old.cells ≡ [] }
-    requires class { unary_class_of op a.now.class ≡ Ok out.old.class }
-    ensures class { out.new.class ≡ out.old.class }
-    ensures rows { Answers (unary_rows op (numbered 0 a.now.cells)) (λ _. out.new.cells) result }
-{
-    for row in 0..a.len() {
-        match unary(op, &a.get(row)) {
-            Ok(cell) => out.push(&cell)?,
-            Err(fault) => return Err(OpFault::At { row, fault }),
-        }
-    }
-    Ok(())
-}
 
 /// The operator at each row of a column whose class it takes (`unary_class`; docs/LANGUAGE.md, operators).
 pub fn map_unary(alloc: Global, op: Unary, a: &Column) -> Result<Column, OpFault>
@@ -47,12 +31,8 @@ pub fn map_unary(alloc: Global, op: Unary, a: &Column) -> Result<Column, OpFault
     if a.len() == 0 {
         return Ok(Column::new(alloc, class));
     }
-    if let Some(values) = column_each(alloc, op, a.values())? {
-        return Ok(Column::of_values(alloc, values));
-    }
-    let mut out = Column::with_capacity(alloc, class, a.len())?;
-    add_unary(&mut out, op, a)?;
-    Ok(out)
+    let values = column_each(alloc, op, a.values())?;
+    Ok(Column::of_values(alloc, values))
 }
 
 /// Adds the results row by row.

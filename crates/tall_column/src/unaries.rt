@@ -1,13 +1,15 @@
 //! Operators of one operand on columns of one class, each in a loop over the values.
-ghost use Rattle.std.specs.Prelude.{◌≡◌, map};
+ghost use Rattle.std.specs.Prelude.{IsOk, map};
 ghost use Rattle.tall_value.specs.Cells.{whole};
 ghost use Rattle.tall_value.specs.CellOperators.{to_integer};
 ghost use Rattle.tall_value.specs.Columns.{numbered};
 ghost use Rattle.tall_value.specs.Elementwise.{each_row, unary_rows};
 ghost use Rattle.tall_dense.specs.Dense.{shown};
-ghost use Rattle.tall_column.specs.Mapped.{AnswersIfMade};
+ghost use Rattle.tall_dense.specs.Rows.{Answers};
+ghost use Rattle.tall_value.specs.ClassTables.{unary_class};
+ghost use Rattle.tall_column.specs.Mapped.{IsConversion};
 
-use crate::binaries::made;
+use crate::binaries::values_of;
 use std::alloc::Global;
 use std::marker::PhantomData;
 use tall_dense::{Integer, OpFault, RowOperator, Stored, Values, each};
@@ -22,22 +24,23 @@ fn each_value<T: Stored, F: RowOperator<T>>(
     alloc: Global,
     operator: &F,
     items: &[T],
-) -> Result<Option<Values>, OpFault>
-    ensures { AnswersIfMade (each_row (F.gives operator.now) (numbered 0 (map T.shown items.now))) result }
+) -> Result<Values, OpFault>
+    ensures { Answers (each_row (F.gives operator.now) (numbered 0 (map T.shown items.now))) (λ v. (shown v).cells) result }
 {
-    made(each(alloc, operator, items))
+    values_of(each(alloc, operator, items))
 }
 
 /// The column of an integer class.
-fn conversion<I: Integer, T: Stored>(alloc: Global, items: &[T]) -> Result<Option<Values>, OpFault>
-    ensures { AnswersIfMade (each_row (to_integer I.KIND) (numbered 0 (map T.shown items.now))) result }
+fn conversion<I: Integer, T: Stored>(alloc: Global, items: &[T]) -> Result<Values, OpFault>
+    ensures { Answers (each_row (to_integer I.KIND) (numbered 0 (map T.shown items.now))) (λ v. (shown v).cells) result }
 {
     each_value(alloc, &To::<I> { class: PhantomData }, items)
 }
 
-/// The conversion to another class, `~` and `isnan`; none for another operator.
-fn converted<T: Stored>(alloc: Global, op: Unary, items: &[T]) -> Result<Option<Values>, OpFault>
-    ensures { AnswersIfMade (unary_rows op (numbered 0 (map T.shown items.now))) result }
+/// The conversion to another class, `~` and `isnan`.
+fn converted<T: Stored>(alloc: Global, op: Unary, items: &[T]) -> Result<Values, OpFault>
+    requires { IsConversion op }
+    ensures { Answers (unary_rows op (numbered 0 (map T.shown items.now))) (λ v. (shown v).cells) result }
 {
     match op {
         Unary::ToInt8 => conversion::<i8, T>(alloc, items),
@@ -52,7 +55,7 @@ fn converted<T: Stored>(alloc: Global, op: Unary, items: &[T]) -> Result<Option<
         Unary::ToLogical => each_value(alloc, &ToLogical, items),
         Unary::Not => each_value(alloc, &Not, items),
         Unary::IsNan => each_value(alloc, &IsNan, items),
-        _ => Ok(None),
+        _ => unreachable!(),
     }
 }
 
@@ -61,8 +64,8 @@ fn each_integer<I: Integer>(
     alloc: Global,
     op: Unary,
     items: &[I],
-) -> Result<Option<Values>, OpFault>
-    ensures { AnswersIfMade (unary_rows op (numbered 0 (map (λ x. whole I.KIND (I.number x)) items.now))) result }
+) -> Result<Values, OpFault>
+    ensures { Answers (unary_rows op (numbered 0 (map (λ x. whole I.KIND (I.number x)) items.now))) (λ v. (shown v).cells) result }
 {
     match op {
         Unary::Neg => each_value(alloc, &integers::Opposite, items),
@@ -73,8 +76,8 @@ fn each_integer<I: Integer>(
 }
 
 /// The operators of a column of doubles, or of logicals, whose signs are doubles.
-fn each_double<T: Doubling>(alloc: Global, op: Unary, items: &[T]) -> Result<Option<Values>, OpFault>
-    ensures { AnswersIfMade (unary_rows op (numbered 0 (map T.shown items.now))) result }
+fn each_double<T: Doubling>(alloc: Global, op: Unary, items: &[T]) -> Result<Values, OpFault>
+    ensures { Answers (unary_rows op (numbered 0 (map T.shown items.now))) (λ v. (shown v).cells) result }
 {
     match op {
         Unary::Neg => each_value(alloc, &doubles::Opposite, items),
@@ -84,9 +87,10 @@ fn each_double<T: Doubling>(alloc: Global, op: Unary, items: &[T]) -> Result<Opt
     }
 }
 
-/// The operator on a column; none where no loop does it.
-pub(crate) fn column_each(alloc: Global, op: Unary, a: &Values) -> Result<Option<Values>, OpFault>
-    ensures { AnswersIfMade (unary_rows op (numbered 0 (shown a.now).cells)) result }
+/// The operator on a column whose class it takes.
+pub(crate) fn column_each(alloc: Global, op: Unary, a: &Values) -> Result<Values, OpFault>
+    requires { IsOk (unary_class op (shown a.now).class) }
+    ensures { Answers (unary_rows op (numbered 0 (shown a.now).cells)) (λ v. (shown v).cells) result }
 {
     match a {
         Values::I8(a) => each_integer(alloc, op, a.as_slice()),
@@ -99,6 +103,6 @@ pub(crate) fn column_each(alloc: Global, op: Unary, a: &Values) -> Result<Option
         Values::U64(a) => each_integer(alloc, op, a.as_slice()),
         Values::Logical(a) => each_double(alloc, op, a.as_slice()),
         Values::Double(a) => each_double(alloc, op, a.as_slice()),
-        Values::Text(_) => Ok(None),
+        Values::Text(_) => unreachable!(),
     }
 }

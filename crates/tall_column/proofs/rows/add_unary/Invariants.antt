@@ -1,8 +1,0 @@
-use Rattle.std.specs.Prelude.{Ok}
-use Rattle.std.proofs.Common.{◌≡◌, map, take}
-use Rattle.tall_value.specs.CellOperators.{unary_cell}
-use Rattle.tall_column.proofs.rows.add_unary.Given as goal
-
-abbrev pub invariant-loop-row : goal.invariant-loop-row
-invariant-loop-row l =
-    (l.out.class ≡ l.initial.out.class) × (map Ok l.out.cells ≡ take l.row (map (unary_cell l.op) l.a.cells))
