@@ -143,7 +143,7 @@ def cases():
             if name not in INTEGERS and (op == "idivide" or op in BITS):
                 continue
             yield op, name, "column"
-            if not (name == "logical" and op in BITS):
+            if not (name == "logical" and op == "div"):
                 yield op, name, "2"
     for op in ("add", "sub", "mul", "lt", "bitand", "and"):
         yield op, "int16", "100000"
@@ -156,7 +156,9 @@ def program(listed):
     for place, (op, name, other) in enumerate(listed):
         own, (result, wide, body) = body_of(op, name)
         outside = other == "100000"
-        if outside and op == "bitand":
+        if outside and op in ("add", "sub", "mul"):
+            wide, body = "int64_t", body.replace("int32_t", "int64_t")
+        elif outside and op == "bitand":
             wide = "int32_t"
             body = "z[i] = (int16_t)(a & (b > INT16_MAX ? INT16_MAX : b));"
         elif outside and op in ("lt", "and"):

@@ -8,7 +8,7 @@ use tall_int::{Whole, clamp};
 use tall_value::{Cell, Class};
 
 /// A column of -32768, -32767, and so on, which begins again after 32767.
-pub fn rising(alloc: Global, rows: usize) -> Result<Column, AllocError>
+pub(crate) fn rising(alloc: Global, rows: usize) -> Result<Column, AllocError>
     ensures { IfOk result (λ c. c.class ≡ class.Int16) }
 {
     let mut column = Column::new(alloc, Class::Int16);
@@ -38,7 +38,7 @@ fn cell<'a>(class: Class, n: i32) -> Cell<'a> {
 }
 
 /// A column of -16, -14, and so on up to 14, again and again.
-pub fn first_column(alloc: Global, class: Class, rows: usize) -> Result<Column, AllocError> {
+pub(crate) fn first_column(alloc: Global, class: Class, rows: usize) -> Result<Column, AllocError> {
     let mut column = Column::new(alloc, class);
     for row in 0..rows {
         let n = (row % 16) as i32 * 2 - 16;
@@ -51,7 +51,7 @@ pub fn first_column(alloc: Global, class: Class, rows: usize) -> Result<Column, 
 }
 
 /// A column of 1 and 2 in turn, which divide the numbers of the first.
-pub fn second_column(alloc: Global, class: Class, rows: usize) -> Result<Column, AllocError> {
+pub(crate) fn second_column(alloc: Global, class: Class, rows: usize) -> Result<Column, AllocError> {
     let mut column = Column::new(alloc, class);
     for row in 0..rows {
         let n = (row % 2) as i32 + 1;

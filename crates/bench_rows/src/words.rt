@@ -5,13 +5,13 @@ use tall_value::{Binary, Class, Unary};
 
 /// An operator of one operand or of two.
 #[derive(Clone, Copy)]
-pub enum Operator {
+pub(crate) enum Operator {
     One(Unary),
     Two(Binary),
 }
 
 /// A word, or the empty one.
-pub fn word<'a>(words: &'a [String], at: usize) -> &'a str {
+pub(crate) fn word<'a>(words: &'a [String], at: usize) -> &'a str {
     match words.get(at) {
         Some(word) => word.as_str(),
         None => "",
@@ -19,12 +19,12 @@ pub fn word<'a>(words: &'a [String], at: usize) -> &'a str {
 }
 
 /// The number that a word spells, or 0.
-pub fn number(words: &[String], at: usize) -> usize {
+pub(crate) fn number(words: &[String], at: usize) -> usize {
     word(words, at).parse().unwrap_or(0)
 }
 
 /// The class of a name; double for any other word.
-pub fn class_of(name: &str) -> Class {
+pub(crate) fn class_of(name: &str) -> Class {
     match name {
         "int8" => Class::Int8,
         "int16" => Class::Int16,
@@ -75,7 +75,7 @@ fn binary_of(name: &str) -> Option<Binary> {
 }
 
 /// The operator of a word.
-pub fn operator_of(name: &str) -> Option<Operator> {
+pub(crate) fn operator_of(name: &str) -> Option<Operator> {
     match unary_of(name) {
         Some(op) => Some(Operator::One(op)),
         None => match binary_of(name) {
