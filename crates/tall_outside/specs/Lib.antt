@@ -1,4 +1,6 @@
+pub mod CalmShelf
 pub mod Count
+pub mod GrowShelf
 pub mod Host
 pub mod MemShelf
 pub mod MemSink

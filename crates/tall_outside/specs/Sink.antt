@@ -21,3 +21,9 @@ pub record WriteCounts (result : Result ℕ WriteFault) (piece : List ℕ) (befo
   pub later : before ≤ now
   pub rose : WriteRose result piece before now
   pub kept : WriteKept result piece before now
+
+-- the outside did not refuse
+abbrev pub IsCalm : Result ℕ WriteFault → Type 0
+IsCalm (Ok n) = ⊤
+IsCalm (Err w.Failed) = ⊥
+IsCalm (Err w.Memory) = ⊤

@@ -40,7 +40,7 @@ pub fn has_distinct_names(files: &[(String, Vec<u8>)]) -> bool
 }
 
 /// The place of the first file of this name.
-fn place_of(files: &[(String, Vec<u8>)], name: &str) -> Option<usize>
+pub(crate) fn place_of(files: &[(String, Vec<u8>)], name: &str) -> Option<usize>
     ensures found { IfSome result (λ i. file_in (files_in files.now) name.now ≡ Some (left_in (file_at files.now (Some i)) 0)) }
     ensures missing { IfNone result (file_in (files_in files.now) name.now ≡ None) }
 {
@@ -53,7 +53,7 @@ fn place_of(files: &[(String, Vec<u8>)], name: &str) -> Option<usize>
 }
 
 /// What is left of the file at this place, after some of its bytes.
-fn left_at(files: &[(String, Vec<u8>)], place: Option<usize>, at: usize) -> &[u8]
+pub(crate) fn left_at(files: &[(String, Vec<u8>)], place: Option<usize>, at: usize) -> &[u8]
     ensures left { result.now ≡ left_in (file_at files.now place) at }
     ensures within { 0 < length result.now → at + length result.now < 2 ^ 64 }
 {
@@ -215,7 +215,7 @@ impl Shelf for MemShelf {
 
 /// Adds a name to a list.
 #[tactic(auto, using(std::proofs::lemmas::List::map_push))]
-fn note(names: &mut Vec<String>, name: &str) -> Result<(), AllocError>
+pub(crate) fn note(names: &mut Vec<String>, name: &str) -> Result<(), AllocError>
     ensures ok { OnOk result (texts_of names.new.items ≡ texts_of names.old.items ++ name.now ∷ []) }
     ensures err { OnErr result (names.new.items ≡ names.old.items) }
 {

@@ -1,5 +1,8 @@
 //! What a shelf answers to a row of calls.
+use crate::calm_shelf::CalmShelf;
+use crate::calm_sink::CalmSink;
 use crate::gate::{Gate, OpenGate};
+use crate::grow_shelf::GrowShelf;
 use crate::mem_shelf::{MemShelf, has_distinct_names};
 use crate::mem_sink::MemSink;
 use crate::shelf::{Opening, Shelf};
@@ -100,5 +103,40 @@ fn copies_from_a_shelf_to_a_sink_past_a_gate(rt: HostRuntime) -> Result<(), Fail
         Some(4)
     );
     assert_eq!(rt; sink.bytes(), b"x,1,".as_slice());
+    Ok(())
+}
+
+#[test]
+fn a_calm_shelf_reads_lent_files_into_a_calm_sink(rt: HostRuntime) -> Result<(), Fail> {
+    let alloc = rt.alloc();
+    let files = vec![in alloc; file(alloc, "a.csv", "x,1,2,")?, file(alloc, "b.csv", "")?]?;
+    assert!(rt; has_distinct_names(files.as_slice()));
+    let mut shelf = CalmShelf::new(alloc, files.as_slice())?;
+    let mut sink = CalmSink::new(alloc);
+    assert_eq!(rt;
+        copy_front(&mut shelf, "a.csv", &mut sink, &OpenGate),
+        Some(4)
+    );
+    assert_eq!(rt; sink.bytes(), b"x,1,".as_slice());
+    let text = answers(alloc, &mut shelf, &["b.csv", "", "c.csv", ""])?;
+    assert_eq!(rt; text.as_str(), r#"Opened "" NoSuch "" "#);
+    Ok(())
+}
+
+#[test]
+fn a_file_grows_at_its_second_opening(rt: HostRuntime) -> Result<(), Fail> {
+    let alloc = rt.alloc();
+    let name = String::from_str(alloc, "a.csv")?;
+    let script = file(alloc, "a.m", "s")?;
+    let first = b"x".as_slice().to_vec(alloc)?;
+    let later = b"xyz".as_slice().to_vec(alloc)?;
+    assert!(rt; name.as_str() != script.0.as_str());
+    let mut shelf = GrowShelf::new(alloc, name, first, later, 2, script)?;
+    let calls = ["a.m", "", "a.csv", "", "a.csv", "", "", "b"];
+    let text = answers(alloc, &mut shelf, &calls)?;
+    assert_eq!(rt;
+        text.as_str(),
+        r#"Opened "s" Opened "x" Opened "xyz" "" NoSuch "#
+    );
     Ok(())
 }

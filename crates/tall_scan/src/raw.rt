@@ -39,8 +39,10 @@ impl RawBlock {
         &self.bytes
     }
 
-    /// The memory of its bytes, for another block.
-    pub fn into_bytes(self) -> Vec<u8> {
+    /// The bytes of its records, with their memory.
+    pub fn into_bytes(self) -> Vec<u8>
+        ensures { raw_records self ≡ text_records (raw_delimiter self) result.items }
+    {
         let RawBlock { bytes, .. } = self;
         bytes
     }

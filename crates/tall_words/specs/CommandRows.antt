@@ -90,3 +90,35 @@ a_short_option = refl
 two_scripts : line (codes "a.m" ∷ codes "b.m" ∷ []) ≡ None
 unfolding clap_on_literals
 two_scripts = refl
+
+zeros_in_front : line (codes "--workers=04" ∷ codes "a.m" ∷ []) ≡ Some (run_script (codes "a.m") 4)
+unfolding clap_on_literals
+zeros_in_front = refl
+
+a_plus_as_a_word_of_its_own : line (codes "--workers" ∷ codes "+4" ∷ codes "a.m" ∷ []) ≡ Some (run_script (codes "a.m") 4)
+unfolding clap_on_literals
+a_plus_as_a_word_of_its_own = refl
+
+a_negative_number_as_a_word_of_its_own : line (codes "--workers" ∷ codes "-4" ∷ codes "a.m" ∷ []) ≡ None
+unfolding clap_on_literals
+a_negative_number_as_a_word_of_its_own = refl
+
+an_option_without_its_value : line (codes "a.m" ∷ codes "--workers" ∷ []) ≡ None
+unfolding clap_on_literals
+an_option_without_its_value = refl
+
+an_empty_value_of_the_demo : line (codes "--demo=" ∷ []) ≡ None
+unfolding clap_on_literals
+an_empty_value_of_the_demo = refl
+
+a_repeated_demo : line (codes "--demo=1" ∷ codes "--demo=1" ∷ []) ≡ None
+unfolding clap_on_literals
+a_repeated_demo = refl
+
+two_hyphens_twice : line (codes "--" ∷ codes "--" ∷ []) ≡ Some (run_script (codes "--") 4)
+unfolding clap_on_literals
+two_hyphens_twice = refl
+
+a_negative_script : line (codes "-4" ∷ []) ≡ None
+unfolding clap_on_literals
+a_negative_script = refl

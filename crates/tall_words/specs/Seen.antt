@@ -1,5 +1,5 @@
 -- A command as definitions see it, and what is known of the words that `clap` has read.
-use Rattle.std.specs.Prelude.{◌≡◌, ℕ, List, [], Some, codes, pos, string_bytes}
+use Rattle.std.specs.Prelude.{◌≡◌, ℕ, List, [], Option, None, Some, codes, pos, string_bytes}
 use Rattle.clap.specs.Words.{Text, found_of, fault_of, matches_of, one_text, rows_of, without_minus}
 use Rattle.clap.specs.Values.{IsSignedIn}
 use Rattle.clap.specs.declared.parser.matches.ArgMatches.{ArgMatches}
@@ -15,6 +15,11 @@ seen (Demo rows workers) = run_demo rows workers
 abbrev pub workers_of : Command → ℕ
 workers_of (Script name workers) = workers
 workers_of (Demo rows workers) = workers
+
+-- the rows of the demo, where it is asked for
+abbrev pub demo_rows : Command → Option ℕ
+demo_rows (Script name workers) = None
+demo_rows (Demo rows workers) = Some rows
 
 -- where the option has a text, a number from 1 to the greatest was read from it
 abbrev pub HasNumber : ArgMatches → Text → ℕ → Type 0

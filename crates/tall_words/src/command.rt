@@ -3,7 +3,7 @@ ghost use Rattle.std.specs.Prelude.{◌≡◌, ◌≤◌, ◌≤ℤ◌, ℕ, fal
 ghost use Rattle.clap.specs.Words.{app_of, found_of, one_text, rule_of};
 ghost use Rattle.tall_words.specs.Commands as spec;
 ghost use Rattle.tall_words.specs.Commands.{command, spelled, tallrun};
-ghost use Rattle.tall_words.specs.Seen.{AreFound, HasNumber, seen, workers_of};
+ghost use Rattle.tall_words.specs.Seen.{AreFound, HasNumber, demo_rows, seen, workers_of};
 
 use clap::error::ErrorKind;
 use clap::{Arg, ArgMatches, Command as Parser, value_parser};
@@ -54,7 +54,8 @@ fn parser<'a>(alloc: Global) -> Result<Parser<'a>, AllocError>
 
 /// What an error of `clap` is called here.
 fn fault_of(kind: ErrorKind) -> WordsFault
-    ensures { (kind ≡ ErrorKind.OutOfMemory) → (result ≡ WordsFault.Memory) }
+    ensures memory { (kind ≡ ErrorKind.OutOfMemory) → (result ≡ WordsFault.Memory) }
+    ensures usage { ((kind ≡ ErrorKind.OutOfMemory) → ⊥) → (result ≡ WordsFault.Usage) }
 {
     match kind {
         ErrorKind::OutOfMemory => WordsFault::Memory,
@@ -95,6 +96,7 @@ fn chosen(
     ensures chosen { IfOk result (λ asked. spec.chosen (option_map (λ name. name.now) script.entry) rows workers ≡ Some (seen asked)) }
     ensures usage { IsErrOf result WordsFault.Usage → spec.chosen (option_map (λ name. name.now) script.entry) rows workers ≡ None }
     ensures workers { IfOk result (λ asked. workers_of asked ≡ workers) }
+    ensures rows { IfOk result (λ asked. demo_rows asked ≡ rows) }
 {
     match (script, rows) {
         (Some(name), None) => match String::from_str(alloc, name) {
@@ -114,6 +116,7 @@ pub fn read_words(alloc: Global, words: &[String]) -> Result<Command, WordsFault
     ensures command { IfOk result (λ asked. command (map string_bytes words.now) ≡ Some (seen asked)) }
     ensures usage { IsErrOf result WordsFault.Usage → command (map string_bytes words.now) ≡ None }
     ensures workers { IfOk result (λ asked. (1 ≤ workers_of asked) × (workers_of asked ≤ 64)) }
+    ensures rows { IfOk result (λ asked. IfSome (demo_rows asked) (λ n. (1 ≤ n) × (n ≤ 1000000))) }
 {
     let matches = match found(alloc, words) {
         Ok(matches) => matches,

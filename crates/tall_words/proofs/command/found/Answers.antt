@@ -13,4 +13,4 @@ pub returns-in-Err-try_get_matches_from-clause-usage :
 returns-in-Err-try_get_matches_from-clause-usage c = λ usage.
     refused_words c.in-Ok.parser _ c.in-Err-try_get_matches_from.error c.in-Ok.ensures
     (c.in-Err-try_get_matches_from.ensures.kinds (simple_and_free c.in-Ok.parser c.in-Ok.ensures))
-    (λ memory. let is = c.fault_of.ensures (c.kind.ensures ∙ memory) in cc)
+    (λ memory. let is = c.fault_of.ensures.memory (c.kind.ensures ∙ memory) in cc)

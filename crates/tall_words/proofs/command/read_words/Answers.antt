@@ -1,4 +1,5 @@
-use Rattle.std.proofs.Common.{◌∙◌, ◌≡◌, sym, subst, arith, refl, IfOk, Some, Option}
+use Rattle.std.proofs.Common.{◌∙◌, ◌≡◌, ◌≤◌, ℕ, sym, subst, arith, refl, IfOk, IfSome, Some, Option}
+use Rattle.std.proofs.lemmas.Result.{IfOk-weaker}
 use Rattle.tall_words.specs.Commands.{Asked}
 use Rattle.tall_words.specs.Seen.{seen}
 use Rattle.tall_words.proofs.Finding.{command_told}
@@ -23,3 +24,10 @@ returns-clause-usage c = λ usage.
     command_told _ c.in-Ok.matches _ _ _ c.in-Ok.ensures.found refl
     (c.number-rows.ensures.value 1000000 (omega arith) c.in-Ok.ensures.found.demo)
     (sym c.in-None.is ∙ c.number.ensures.value 64 (omega arith) c.in-Ok.ensures.found.workers)
+
+pub returns-in-Some-clause-rows : goal.returns-in-Some-clause-rows
+returns-in-Some-clause-rows c =
+    IfOk-weaker c.chosen.result _ _
+    (λ asked is. subst (λ (rows : Option ℕ). IfSome rows (λ n. (1 ≤ n) × (n ≤ 1000000))) (sym is)
+        (c.number-rows.ensures.range 1000000 (omega arith) c.in-Ok.ensures.found.demo))
+    c.chosen.ensures.rows
