@@ -15,3 +15,4 @@ pub mod HeaderNames
 pub mod Openings
 pub mod Asked
 pub mod Told
+pub mod FileLemmas

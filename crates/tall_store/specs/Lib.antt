@@ -17,6 +17,9 @@ pub mod Stored
 pub mod Reads
 pub mod Parts
 pub mod Blocks
+pub mod FileEnds
+pub mod FileSteps
+pub mod FileEndRows
 pub mod FieldRows
 pub mod NameRows
 pub mod OpeningRows

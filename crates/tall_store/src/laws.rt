@@ -1,4 +1,5 @@
 //! Laws of the definitions, the contracts of functions without a body.
+ghost use Rattle.tall_store.specs.FileEnds.{FilesFollow};
 ghost use Rattle.tall_store.specs.Blocks.{CellsJoin, FaultsJoin, SizesCut, SizesHold, TablesJoin};
 
 /// Blocks make the whole: however the records of each file are cut into blocks, the cells of a variable in the blocks, one
@@ -11,4 +12,10 @@ pub fn blocks_make_the_whole()
     ensures sizes { SizesCut }
     ensures tables { TablesJoin }
     ensures full { SizesHold }
+{}
+
+/// The walk over the files of a datastore goes from file to file: from a place in the list on it is the file there, with its own
+/// fault or none and its records, and then the walk from the next place and the row that comes next behind them.
+pub fn files_follow()
+    ensures { FilesFollow }
 {}

@@ -1,0 +1,88 @@
+-- One file of the walk: its header, and what is left behind it.
+use Rattle.std.proofs.Common.{ℕ, zero, suc, ◌≡◌, ◌<◌, ◌≤◌, ◌∙◌, ◌+◌, ◌^◌, List, [], ◌∷◌, ◌++◌, length, drop, true, false, refl, sym, ap, subst, arith, get_or, Bool}
+use Rattle.std.specs.Prelude.{Option, Some, None, IfSome, ◌&&◌, not, if◌then◌else◌}
+use Rattle.std.proofs.lemmas.List.{drop_more, length-append}
+use Rattle.tall_outside.specs.Shelf.{Files, file_in}
+use Rattle.tall_cut.specs.Rows.{Fields, NoneLeft, TakesMany}
+use Rattle.tall_value.specs.declared.faults.ReadingKind.TheVariants.{HeaderDiffers}
+use Rattle.tall_store.specs.declared.file_end.FileEnd.{FileEnd}
+use Rattle.tall_store.specs.declared.file_end.FileEnd.TheVariants.{Whole, Reading, Failed, TooLarge, Memory}
+use Rattle.tall_store.specs.Headers.{begins_with, is_one_record}
+use Rattle.tall_store.specs.Stores.{SeenStore}
+use Rattle.tall_store.specs.Walk.{WalkedFile, fault_when, walk_from}
+use Rattle.tall_store.specs.FileEnds.{ChecksHeader, FilesFollow, IsCause, data_of, fault_at, header_faults, name_of_file, walked_file}
+
+-- ---- the walk, file by file
+
+pub files_follow : FilesFollow
+files_follow store files file row l = ap (walk_from store files file row) (drop_more store.files file [] l)
+
+-- ---- the header
+
+-- files have none
+pub no_header : (store : SeenStore) (file row : ℕ) (left : Option (List Fields)) → store.header ≡ false
+    → IfSome left (λ records. ChecksHeader store file row records None left)
+no_header store file row None h = tt
+no_header store file row (Some records) h =
+    (ap (λ b. fault_when (b && not (begins_with store.first records)) HeaderDiffers file row) h, sym (ap (λ b. Some (if b then drop 1 records else records)) h))
+
+-- there is no record
+pub header_end : (store : SeenStore) (file row : ℕ) (left after : Option (List Fields)) → store.header ≡ true → NoneLeft left
+    → IfSome left (λ records. ChecksHeader store file row records (Some (Reading (fault_at HeaderDiffers file row))) after)
+header_end store file row None after h n = tt
+header_end store file row (Some records) after h n =
+    ap (λ b. fault_when (b && not (begins_with store.first records)) HeaderDiffers file row) h
+    ∙ ap (λ rs. fault_when (not (begins_with store.first rs)) HeaderDiffers file row) n
+
+-- the first record is another
+pub header_other : (store : SeenStore) (file row : ℕ) (left rest after : Option (List Fields)) (header : List Fields) → store.header ≡ true → TakesMany left header rest
+    → 0 < length header → length header ≤ 1 → is_one_record store.first header ≡ false
+    → IfSome left (λ records. ChecksHeader store file row records (Some (Reading (fault_at HeaderDiffers file row))) after)
+header_other store file row None rest after header h t some one o = tt
+header_other store file row (Some records) None after header h t some one o = absurd t
+header_other store file row (Some records) (Some rest) after [] h t some one o = absurd (omega (arith, some))
+header_other store file row (Some records) (Some rest) after (fields ∷ []) h t some one o =
+    ap (λ b. fault_when (b && not (begins_with store.first records)) HeaderDiffers file row) h
+    ∙ ap (λ rs. fault_when (not (begins_with store.first rs)) HeaderDiffers file row) t
+    ∙ ap (λ b. fault_when (not b) HeaderDiffers file row) o
+header_other store file row (Some records) (Some rest) after (fields ∷ more ∷ others) h t some one o = absurd (omega (arith, one))
+
+-- the first record is the header
+pub header_same : (store : SeenStore) (file row : ℕ) (left rest after : Option (List Fields)) (header : List Fields) → store.header ≡ true → TakesMany left header rest
+    → 0 < length header → length header ≤ 1 → is_one_record store.first header ≡ true → after ≡ rest
+    → IfSome left (λ records. ChecksHeader store file row records None after)
+header_same store file row None rest after header h t some one o e = tt
+header_same store file row (Some records) None after header h t some one o e = absurd t
+header_same store file row (Some records) (Some rest) after [] h t some one o e = absurd (omega (arith, some))
+header_same store file row (Some records) (Some rest) after (fields ∷ []) h t some one o e = (
+  ap (λ b. fault_when (b && not (begins_with store.first records)) HeaderDiffers file row) h
+  ∙ ap (λ rs. fault_when (not (begins_with store.first rs)) HeaderDiffers file row) t
+  ∙ ap (λ b. fault_when (not b) HeaderDiffers file row) o,
+  e ∙ sym (ap (λ b. Some (if b then drop 1 records else records)) h ∙ ap (λ rs. Some (drop 1 rs)) t),
+)
+header_same store file row (Some records) (Some rest) after (fields ∷ more ∷ others) h t some one o e = absurd (omega (arith, one))
+
+-- the reading broke off
+pub header_unread : (store : SeenStore) (file row : ℕ) (left after : Option (List Fields)) (end : FileEnd) → IsCause end
+    → IfSome left (λ records. ChecksHeader store file row records (Some end) after)
+header_unread store file row None after end c = tt
+header_unread store file row (Some records) after (Whole n) c = absurd c
+header_unread store file row (Some records) after (Reading f) c = absurd c
+header_unread store file row (Some records) after Failed c = tt
+header_unread store file row (Some records) after TooLarge c = tt
+header_unread store file row (Some records) after Memory c = tt
+
+-- ---- the row numbered 2^40
+
+-- a block has it
+pub too_many_left : (left rest : Option (List Fields)) (block : List Fields) (count row : ℕ) → TakesMany left block rest → count ≡ length block → 2 ^ 40 < row + count
+    → IfSome left (λ rows. 2 ^ 40 < row + length rows)
+too_many_left None rest block count row t c l = tt
+too_many_left (Some rows) None block count row t c l = absurd t
+too_many_left (Some rows) (Some rest) block count row t c l =
+    let long : length rows ≡ length block + length rest = ap length t ∙ length-append block rest in omega (arith, long, c, l)
+
+-- it came before the end
+pub too_many_ended : (left : Option (List Fields)) (row : ℕ) → 2 ^ 40 < row → IfSome left (λ rows. 2 ^ 40 < row + length rows)
+too_many_ended None row l = tt
+too_many_ended (Some rows) row l = omega (arith, l)
