@@ -1,0 +1,13 @@
+//! Operators, indexes and functions over values in memory, once for map and reduce functions and for the statements of a script.
+//!
+//! Each function has the name of a word of tall_local's definitions, and gives what that word says of its operands: the value,
+//! or the refusal. Operands are lent, so no function takes a value away.
+#![tactic(auto)]
+
+mod faults;
+mod operators;
+mod values;
+
+pub use faults::MemoryFault;
+pub use operators::{memory_binary, memory_infix, memory_prefix, memory_unary};
+pub use values::{MemoryRef, MemoryValue};
