@@ -5,3 +5,4 @@ pub mod RowLemmas
 pub mod SortLemmas
 pub mod UniqueLemmas
 pub mod PlacedLemmas
+pub mod NativeLemmas

@@ -7,3 +7,10 @@ mod keys;
 mod unique;
 
 pub use unique::UniqueFold;
+mod states;
+mod totals;
+mod bests;
+mod limits;
+mod natives;
+mod tallies;
+mod places;
