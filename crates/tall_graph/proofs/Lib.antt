@@ -1,0 +1,10 @@
+pub mod GroupClasses
+pub mod LookUpLaws
+pub mod TableLaws
+pub mod KeyLaws
+pub mod ShapeLists
+pub mod GraphLaws
+pub mod LaterLaws
+pub mod PlaceLaws
+pub mod PushLaws
+pub mod AcceptLaws

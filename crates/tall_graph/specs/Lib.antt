@@ -1,0 +1,11 @@
+pub mod Vertices
+pub mod Numbers
+pub mod Hashes
+pub mod Keys
+pub mod KeyTests
+pub mod Trees
+pub mod Places
+pub mod Later
+pub mod Kept
+pub mod Drafts
+pub mod Accepted
