@@ -1,6 +1,6 @@
 -- The fold of some cells stands for them as one cell; where it is out of range the scan has failed; and the carry of a block
 -- is the fold of the cells of the blocks before.
-use Rattle.std.specs.Prelude.{◌≡◌, refl, ℤ, ℕ, zero, suc, pos, ◌<◌, ◌≤◌, ◌+◌, ◌+ℤ◌, ◌≤ℤ◌, ◌^◌, nat_le, unsigned_abs, if◌then◌else◌, Bool, true, false, Option, None, Some, Result, Ok, Err, List, [], ◌∷◌, ◌++◌, get_or, length, map, take}
+use Rattle.std.specs.Prelude.{◌≡◌, refl, ℤ, ℕ, zero, suc, pos, ◌<◌, ◌≤◌, ◌+◌, ◌+ℤ◌, ◌≤ℤ◌, ◌⊎◌, ◌^◌, nat_le, unsigned_abs, if◌then◌else◌, Bool, true, false, Option, None, Some, Result, Ok, Err, List, [], ◌∷◌, ◌++◌, get_or, length, map, take}
 use Rattle.std.proofs.Common.{ap, sym, subst, ◌∙◌, arith, inl, inr}
 use Rattle.std.specs.List.{filter_map}
 use Rattle.std.specs.Ordering.{is_lt, int_cmp}
@@ -21,15 +21,18 @@ use Rattle.tall_value.specs.declared.faults.CellFault.{CellFault}
 use Rattle.tall_value.specs.declared.faults.CellFault.TheVariants.{Inexact}
 use Rattle.tall_value.specs.declared.functions.Scan.{Scan}
 use Rattle.tall_value.specs.declared.functions.Scan.TheVariants.{CumSum, CumMin, CumMax}
-use Rattle.tall_value.specs.Cells.{Seen, whole, logical, double, text, amount}
+use Rattle.tall_value.specs.declared.faults.ClassFault.{ClassFault}
+use Rattle.tall_value.specs.FunctionClasses.{scan_kind}
+use Rattle.tall_value.specs.Groups.{or_nan}
+use Rattle.tall_value.specs.Cells.{Seen, whole, logical, double, text, seen_kind, amount}
 use Rattle.tall_value.specs.CellOperators.{double_cell}
 use Rattle.tall_value.specs.CellOrder.{cell_order}
 use Rattle.tall_value.specs.Classes.{least, greatest}
 use Rattle.tall_value.specs.Columns.{cells}
 use Rattle.tall_value.specs.Elementwise.{at_row}
-use Rattle.tall_value.specs.Reductions.{lesser, greater}
-use Rattle.tall_semantics.specs.ScanCarries.{fold_of, while_there, carries_behind}
-use Rattle.tall_blocks.specs.Carries.{Rows, RowsOrFault, flat, rows_joined, or_inexact, scanned_behind, carry_for, AllCells, IsInClass}
+use Rattle.tall_value.specs.Reductions.{present, is_present, lesser, greater, fold, folded}
+use Rattle.tall_semantics.specs.ScanCarries.{or_cell, fold_of, while_there, carries_behind}
+use Rattle.tall_blocks.specs.Carries.{Rows, RowsOrFault, flat, rows_joined, or_inexact, scanned_behind, carry_for, AllCells, HasScanKind, IsInClass}
 use Rattle.tall_blocks.proofs.Choices.{true_or_false, if_true, if_false}
 use Rattle.tall_blocks.proofs.CarryLaws.{IsNumber, all_both, of_sum, of_test, to_fold, sum_of, plus, sums_add, sum_of_one, class_total, best_stands, end_stands, lesser_chooses, greater_chooses}
 use Rattle.tall_blocks.proofs.RowLaws.{scan_then}
@@ -143,6 +146,58 @@ carry_stands CumMax (Integer k) before cs c e h =
 carry_stands CumMax Logical before cs c e h = subst (λ d. fold_of CumMax Logical (d ∷ cs) ≡ fold_of CumMax Logical (before ++ cs)) (cell_inside _ c e) (ap some_cell (best_stands greater greater_assoc greater_chooses before cs))
 carry_stands CumMax Double before cs c e h = subst (λ d. fold_of CumMax Double (d ∷ cs) ≡ fold_of CumMax Double (before ++ cs)) (cell_inside _ c e) (ap some_cell (best_stands greater greater_assoc greater_chooses before cs))
 carry_stands CumMax Text before cs c e h = subst (λ d. fold_of CumMax Text (d ∷ cs) ≡ fold_of CumMax Text (before ++ cs)) (cell_inside _ c e) (ap some_cell (best_stands greater greater_assoc greater_chooses before cs))
+
+-- ---- a carry has its scan's class
+
+kind_inside : (j k : Kind) → ◌≡◌ {A = Result Kind ClassFault} (Ok j) (Ok k) → j ≡ k
+kind_inside j k h = ap (λ r. elim r [ Ok i ↦ i | Err e ↦ j ]) h
+
+present_cells : (P : Seen → Type 0) (cs : List Seen) → AllCells P cs → AllCells P (present cs)
+present_cells P [] h = tt
+present_cells P (c ∷ cs) h = by_test (is_present c) (present cs) h.0 (present_cells P cs h.1)
+  where
+    by_test : (b : Bool) (ds : List Seen) → P c → AllCells P ds → AllCells P (if b then c ∷ ds else ds)
+    by_test true ds p g = (p, g)
+    by_test false ds p g = g
+
+folded_or : (P : Seen → Type 0) (f : Seen → Seen → Seen) → ((c d : Seen) → P c → P d → P (f c d)) → (x : Seen) → P x → (cs : List Seen) → AllCells P cs → P (or_cell x (folded f cs))
+folded_or P f keeps x p [] h = p
+folded_or P f keeps x p (c ∷ cs) h = go c cs h.0 h.1
+  where
+    go : (c : Seen) (cs : List Seen) → P c → AllCells P cs → P (fold f c cs)
+    go c [] q g = q
+    go c (d ∷ cs) q g = go (f c d) cs (keeps c d q g.0) g.1
+
+or_nan_is : (o : Option Seen) → or_nan o ≡ or_cell (double None) o
+or_nan_is None = refl
+or_nan_is (Some c) = refl
+
+chosen_kind : (f : Seen → Seen → Seen) → ((c d : Seen) → (f c d ≡ c) ⊎ (f c d ≡ d)) → (k : Kind) (c d : Seen) → seen_kind c ≡ k → seen_kind d ≡ k → seen_kind (f c d) ≡ k
+chosen_kind f chooses k c d p q = elim (chooses c d) [ inl e ↦ ap seen_kind e ∙ p | inr e ↦ ap seen_kind e ∙ q ]
+
+class_of_best : (f : Seen → Seen → Seen) → ((c d : Seen) → (f c d ≡ c) ⊎ (f c d ≡ d)) → (k : IntKind) (n : ℤ) (cs : List Seen) (c : Seen) → AllCells (HasScanKind (Integer k)) cs → some_cell (or_cell (whole k n) (folded f cs)) ≡ some_cell c → seen_kind c ≡ Integer k
+class_of_best f chooses k n cs c h e =
+    ap seen_kind (sym (cell_inside (or_cell (whole k n) (folded f cs)) c e)) ∙ folded_or (λ d. seen_kind d ≡ Integer k) f (chosen_kind f chooses (Integer k)) (whole k n) refl cs h
+
+class_of_double : (f : Seen → Seen → Seen) → ((c d : Seen) → (f c d ≡ c) ⊎ (f c d ≡ d)) → (cs : List Seen) (c : Seen) → AllCells (HasScanKind Double) cs → some_cell (or_nan (folded f (present cs))) ≡ some_cell c → seen_kind c ≡ Double
+class_of_double f chooses cs c h e =
+    ap seen_kind (sym (cell_inside (or_nan (folded f (present cs))) c e))
+    ∙ (ap seen_kind (or_nan_is (folded f (present cs)))
+    ∙ folded_or (λ d. seen_kind d ≡ Double) f (chosen_kind f chooses Double) (double None) refl (present cs) (present_cells (λ d. seen_kind d ≡ Double) cs h))
+
+pub carry_class : (s : Scan) (a k : Kind) (cs : List Seen) (c : Seen) → scan_kind s a ≡ Ok k → AllCells (HasScanKind a) cs → fold_of s a cs ≡ Some c → seen_kind c ≡ k
+carry_class CumSum (Integer j) k cs c e h q = ap seen_kind (sym (cell_inside (whole j (class_total j cs)) c q)) ∙ kind_inside (Integer j) k e
+carry_class CumSum Logical k cs c e h q = ap seen_kind (sym (cell_of_sum (sum_of cs) c q)) ∙ kind_inside Double k e
+carry_class CumSum Double k cs c e h q = ap seen_kind (sym (cell_of_sum (sum_of cs) c q)) ∙ kind_inside Double k e
+carry_class CumSum Text k cs c e h q = absurd (cc)
+carry_class CumMin (Integer j) k cs c e h q = class_of_best lesser lesser_chooses j (greatest j) cs c h q ∙ kind_inside (Integer j) k e
+carry_class CumMin Logical k cs c e h q = absurd (cc)
+carry_class CumMin Double k cs c e h q = class_of_double lesser lesser_chooses cs c h q ∙ kind_inside Double k e
+carry_class CumMin Text k cs c e h q = absurd (cc)
+carry_class CumMax (Integer j) k cs c e h q = class_of_best greater greater_chooses j (least j) cs c h q ∙ kind_inside (Integer j) k e
+carry_class CumMax Logical k cs c e h q = absurd (cc)
+carry_class CumMax Double k cs c e h q = class_of_double greater greater_chooses cs c h q ∙ kind_inside Double k e
+carry_class CumMax Text k cs c e h q = absurd (cc)
 
 -- the rows behind are scanned alike, also behind some more cells
 from_behind : (s : Scan) (a : Kind) (before : List Seen) (c : Seen) → fold_of s a before ≡ Some c → (cs : List Seen) (rs : Rows) → AllCells (IsInClass a) cs → AllCells (IsInClass a) (cells rs)

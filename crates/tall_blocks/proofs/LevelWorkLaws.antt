@@ -234,6 +234,21 @@ some_or_none : (o : Option ℕ) → (o ≡ None) ⊎ ((s : ℕ) × (o ≡ Some s
 some_or_none None = inl refl
 some_or_none (Some s) = inr (s, refl)
 
+-- a scan has the space of its operand
+pub space_of_scan : (columns : Columns) (vs : List Vertex) (f : ℕ → Tall) → IsMeaning columns vs f → (i a : ℕ) (v : Vertex) (s : Scan) → slice_get vs i ≡ Some v → v.made ≡ operation (scan s) → IsAmong v.args a → (f a).shape.space ≡ (f i).shape.space
+space_of_scan columns vs f meaning i a v s e q m =
+    let shaped = tall_shape v.at (scan s) (map f v.args) (f i) (made_value columns vs f meaning i v (scan s) e q) in
+    let w = shaped_is (scan s) (shapes (map f v.args)) (place_of (scan s) (shapes (map f v.args))) (f i).shape shaped in
+    of_args v.args w.0 w.1 m ∙ ap (λ (t : Shape). t.space) w.2
+  where
+    of_args : (args : List ℕ) (p : Class × Space) → place_of (scan s) (shapes (map f args)) ≡ place_ok p → IsAmong args a → (f a).shape.space ≡ p.1
+    of_args [] p h m = absurd m
+    of_args (b ∷ []) p h m = elim m [
+      | inl t ↦ ap (λ d. (f d).shape.space) (sym t) ∙ placing.inside (f b).shape.space p.1 (placed_is _ (space_ok (f b).shape.space) p (column_is (f b).shape _ p h))
+      | inr n ↦ absurd n
+    ]
+    of_args (b ∷ d ∷ args) p h m = absurd (refused p h)
+
 module _ (columns : Columns) (vs : List Vertex) (f : ℕ → Tall) (made : IsMade vs) (meaning : IsMeaning columns vs f) (ordered : IsOrdered vs) where
   shape_is : (i : ℕ) (v : Vertex) → slice_get vs i ≡ Some v → (f i).shape ≡ shape_at vs i
   shape_is i v e = value_shape columns vs f made meaning i v e
@@ -284,20 +299,8 @@ module _ (columns : Columns) (vs : List Vertex) (f : ℕ → Tall) (made : IsMad
         stores_above vs r.0 r.1 s r.3 r.4
   ]
 
-  -- a scan has the space of its operand
-  pub scan_space : (i a : ℕ) (v : Vertex) (s : Scan) → slice_get vs i ≡ Some v → v.made ≡ operation (scan s) → IsAmong v.args a → (f a).shape.space ≡ (f i).shape.space
-  scan_space i a v s e q m =
-      let shaped = tall_shape v.at (scan s) (map f v.args) (f i) (made_value columns vs f meaning i v (scan s) e q) in
-      let w = shaped_is (scan s) (shapes (map f v.args)) (place_of (scan s) (shapes (map f v.args))) (f i).shape shaped in
-      of_args v.args w.0 w.1 m ∙ ap (λ (t : Shape). t.space) w.2
-    where
-      of_args : (args : List ℕ) (p : Class × Space) → place_of (scan s) (shapes (map f args)) ≡ place_ok p → IsAmong args a → (f a).shape.space ≡ p.1
-      of_args [] p h m = absurd m
-      of_args (b ∷ []) p h m = elim m [
-        | inl t ↦ ap (λ d. (f d).shape.space) (sym t) ∙ placing.inside (f b).shape.space p.1 (placed_is _ (space_ok (f b).shape.space) p (column_is (f b).shape _ p h))
-        | inr n ↦ absurd n
-      ]
-      of_args (b ∷ d ∷ args) p h m = absurd (refused p h)
+  scan_space : (i a : ℕ) (v : Vertex) (s : Scan) → slice_get vs i ≡ Some v → v.made ≡ operation (scan s) → IsAmong v.args a → (f a).shape.space ≡ (f i).shape.space
+  scan_space = space_of_scan columns vs f meaning
 
   module _ (needed : List ℕ) (is_there : AreThere vs needed) (c : Option Fault) where
     abbrev Of : (store level : ℕ) → ℕ → Type 0

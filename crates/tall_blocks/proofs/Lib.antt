@@ -19,6 +19,7 @@ pub mod PieceLaws
 pub mod PieceCarryLaws
 pub mod PassWorkLaws
 pub mod LevelWorkLaws
+pub mod PassCarryLaws
 pub mod SampleLaws
 pub mod BlockFoldLaws
 pub mod GatheredLaws

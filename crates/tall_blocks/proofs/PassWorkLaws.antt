@@ -329,6 +329,9 @@ store_test : (s : ℕ) (o : Option ℕ) → (is_store s o ≡ true) ↔ (o ≡ S
 store_test s None = ((λ h. absurd (cc)), (λ h. absurd (cc)))
 store_test s (Some t) = ((λ h. ap Some (number_is t s h)), (λ h. ap (is_store s) h ∙ same_number s))
 
+pub store_tested : (s : ℕ) (o : Option ℕ) → o ≡ Some s → is_store s o ≡ true
+store_tested s o e = (store_test s o).1 e
+
 -- all that has rows of a datastore
 pub rows_of_store : (store : ℕ) (vs : List Vertex) (f : ℕ → Tall) → IsOfRows store vs f (has_rows_of store f)
 rows_of_store store vs f = record {
@@ -343,7 +346,7 @@ below_test : (c : Option Fault) (n : ℕ) → (is_below c n ≡ true) ↔ IsBelo
 below_test None n = ((λ h. tt), (λ h. refl))
 below_test (Some x) n = ((λ h. grind (arith, nat_tests)), (λ h. grind (arith, nat_tests)))
 
-and_true : (a b : Bool) → a ≡ true → b ≡ true → (a && b) ≡ true
+pub and_true : (a b : Bool) → a ≡ true → b ≡ true → (a && b) ≡ true
 and_true true b p q = q
 and_true false b p q = p
 

@@ -1,5 +1,5 @@
 -- What a pass over blocks stands on is met by a small list of vertices.
-use Rattle.std.specs.Prelude.{◌≡◌, refl, ℕ, zero, suc, pos, true, Some, [], ◌∷◌, slice_get}
+use Rattle.std.specs.Prelude.{◌≡◌, refl, ℕ, zero, suc, ◌≤◌, pos, Bool, true, None, Some, List, [], ◌∷◌, slice_get}
 use Rattle.std.proofs.Common.{ap, subst, ◌∙◌, arith, inl, inr}
 use Rattle.std.proofs.lemmas.List.Elements.{All-nil, All-cons}
 use Rattle.tall_value.specs.declared.class.Class.{Class}
@@ -8,11 +8,23 @@ use Rattle.tall_semantics.specs.ClassesOfCells.{HasClass, HaveClass}
 use Rattle.tall_semantics.specs.Operations.{Made, stored, operation}
 use Rattle.tall_semantics.specs.Talls.{tall}
 use Rattle.tall_semantics.specs.Spaces.{is_single, store_of}
-use Rattle.tall_semantics.specs.Deferred.{Vertex, AllBelow, IsAmong}
+use Rattle.tall_semantics.specs.Deferred.{Vertex, AllBelow, AreThere, IsAmong, own_in}
 use Rattle.tall_semantics.specs.InOrder.{IsAccepted, IsSound, talls_from}
 use Rattle.tall_semantics.specs.RowsOfSpaces.{AreColumns}
 use Rattle.tall_semantics.specs.Samples.{number, nan}
+use Rattle.tall_semantics.specs.Faults.{Fault}
+use Rattle.tall_semantics.specs.Spaces.{has_rows}
+use Rattle.tall_semantics.specs.Least.{IsLeast}
+use Rattle.tall_semantics.specs.Levels.{UpTo}
+use Rattle.tall_semantics.specs.Numbered.{AreReadings, IsGather, levels_in, nodes_by}
+use Rattle.tall_semantics.specs.Plans.{is_scan_at, needed_of}
+use Rattle.tall_semantics.specs.ScanLevels.{AreScans, chains_in, scans_by}
 use Rattle.tall_semantics.proofs.AdditionLaws.{all_follow}
+use Rattle.tall_semantics.proofs.CandidateLaws.{graph_levels}
+use Rattle.tall_semantics.proofs.PlanLaws.{needed_under}
+use Rattle.tall_semantics.proofs.ScanLevelLaws.{scans_by_levels}
+use Rattle.tall_blocks.specs.PassWork.{AreScalarsLower, IsCutFor, cut_at}
+use Rattle.tall_blocks.proofs.PassWorkLaws.{and_true, cut_decided, largest_serves, lower_levels}
 use Rattle.tall_semantics.proofs.Basics.{inside}
 use Rattle.tall_semantics.proofs.InOrderLaws.{talls_mean}
 use Rattle.tall_blocks.specs.Cut.{IsKnownScalar, AreOfStore}
@@ -91,6 +103,62 @@ of_store = record {
   operands_cut = λ i a v e c among here. (operand i a v e among).0 here;
   scalars_known = λ i a v e c among alone. (operand i a v e among).1 alone;
 }
+
+sample_readings : AreReadings whole_columns vertices
+sample_readings = record {
+  first = λ i j v w s a o c d e g m n. refl;
+  called = λ i v s a c x e m h. absurd (cc);
+}
+
+abbrev pub Needed : List ℕ
+Needed = needed_of vertices (3 ∷ 4 ∷ [])
+
+roots_there : AreThere vertices (3 ∷ 4 ∷ [])
+roots_there r h = elim h [
+  | inl e ↦ subst (λ j. (v : Vertex) × (slice_get vertices j ≡ Some v)) e (_, refl)
+  | inr m ↦ elim m [ inl e ↦ subst (λ j. (v : Vertex) × (slice_get vertices j ≡ Some v)) e (_, refl) | inr n ↦ absurd n ]
+]
+
+pub sample_gather : IsGather whole_columns vertices value (levels_in value) (3 ∷ 4 ∷ []) Needed
+sample_gather =
+    let follow = all_follow vertices refl in
+    let meaning = talls_mean whole_columns vertices sound in
+    record {
+      meaning = meaning;
+      ordered = follow.0;
+      levelled = graph_levels whole_columns vertices value meaning follow.1 sample_readings;
+      there = roots_there;
+      under = needed_under vertices (3 ∷ 4 ∷ []) follow.0 roots_there;
+    }
+
+none_below : (i : ℕ) (y : Fault) → levels_in value i ≤ 0 → own_in vertices value i ≡ Some y → ⊥
+unfolding tall talls_from
+none_below zero y l own = omega (arith, l)
+none_below (suc zero) y l own = omega (arith, l)
+none_below (suc (suc zero)) y l own = absurd (cc)
+none_below (suc (suc (suc zero))) y l own = omega (arith, l)
+none_below (suc (suc (suc (suc zero)))) y l own = omega (arith, l)
+none_below (suc (suc (suc (suc (suc i))))) y l own = absurd (cc)
+
+pub sample_candidate : IsLeast (own_in vertices value) (UpTo (nodes_by vertices value (levels_in value)) (IsAmong Needed) 0) None
+sample_candidate = record {
+  one = λ x e. absurd (cc);
+  least = λ i y up own. absurd (none_below i y up.1 own);
+}
+
+abbrev pub CutAt : ℕ → Bool
+CutAt = cut_at 0 vertices value (levels_in value) Needed 1 None
+
+pub sample_scans : AreScans vertices (scans_by vertices value (chains_in value)) (levels_in value)
+sample_scans = scans_by_levels whole_columns vertices value sample_gather.meaning sample_gather.ordered
+
+pub sample_cut : IsCutFor 0 vertices value (levels_in value) (chains_in value) Needed 1 None CutAt
+sample_cut =
+    largest_serves whole_columns (λ s. 1 ∷ 2 ∷ []) vertices value (levels_in value) (chains_in value) (3 ∷ 4 ∷ []) Needed sample_gather 0 0 None CutAt (cut_decided 0 vertices value (levels_in value) Needed 1 None)
+    (λ i a v t h e among. sample_scans.operands i a v (and_true (is_scan_at (slice_get vertices i)) (has_rows (value i).shape.space) t h) e among)
+
+pub sample_scalars : AreScalarsLower vertices value (levels_in value)
+sample_scalars = lower_levels whole_columns vertices value sample_gather.meaning
 
 pub sample_pass : IsBlockwise whole_columns (λ s. 1 ∷ 2 ∷ []) vertices value 0 cut blocks
 sample_pass =

@@ -13,6 +13,7 @@ pub mod FoldsOfBlocks
 pub mod Gathered
 pub mod BlockSamples
 pub mod BlockRows
+pub mod PieceRows
 pub mod CarryRows
 pub mod FoldRows
 pub mod GroupsOverRows

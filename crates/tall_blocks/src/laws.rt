@@ -1,15 +1,20 @@
 //! Laws of the definitions, each the contract of a function without a body.
-ghost use Rattle.std.specs.Prelude.{◌≡◌, ◌<◌, ◌≤◌, ◌⊎◌, ℕ, Bool, true, List, [], ◌∷◌, ◌++◌, length, map, take, Option, None, Some, Err, slice_get};
+ghost use Rattle.std.specs.Prelude.{◌≡◌, ◌<◌, ◌≤◌, ◌⊎◌, ℕ, Bool, true, List, [], ◌∷◌, ◌++◌, length, map, take, Option, None, Some, Ok, Err, slice_get};
 ghost use Rattle.tall_value.specs.declared.class.Kind.{Kind};
 ghost use Rattle.tall_value.specs.declared.functions.Scan.{Scan};
-ghost use Rattle.tall_value.specs.Cells.{Seen};
+ghost use Rattle.tall_value.specs.Cells.{Seen, seen_kind};
+ghost use Rattle.tall_value.specs.FunctionClasses.{scan_kind};
 ghost use Rattle.tall_value.specs.Scans.{scanned};
 ghost use Rattle.tall_semantics.specs.Faults.{Fault, least_fault};
 ghost use Rattle.tall_semantics.specs.Outcomes.{Outcome, rows, fault_of};
 ghost use Rattle.tall_semantics.specs.Talls.{Columns, Tall};
 ghost use Rattle.tall_semantics.specs.Deferred.{IsAmong, IsMeaning, IsOrdered, Vertex, fault_in, own_in};
 ghost use Rattle.tall_semantics.specs.Least.{IsLeast};
-ghost use Rattle.tall_blocks.specs.Blocks.{Block, all_rows, block_columns};
+ghost use Rattle.tall_semantics.specs.Levels.{UpTo};
+ghost use Rattle.tall_semantics.specs.Numbered.{IsGather, levels_in, nodes_by};
+ghost use Rattle.tall_semantics.specs.Plans.{needed_of};
+ghost use Rattle.tall_semantics.specs.ScanLevels.{AreScans, chains_in, scans_by};
+ghost use Rattle.tall_blocks.specs.Blocks.{AreAscending, AreBlocksOf, AreTables, Block, all_rows, block_columns};
 ghost use Rattle.tall_blocks.specs.BlockSamples.{blocks, cut, value, vertices, whole_columns};
 ghost use Rattle.tall_blocks.specs.Carries.{AllCells, HasScanKind, IsInClass, Rows, carry_for, flat, rows_joined, scanned_behind};
 ghost use Rattle.tall_semantics.specs.ScanCarries.{fold_of};
@@ -17,17 +22,19 @@ ghost use Rattle.tall_value.specs.Columns.{cells};
 ghost use Rattle.tall_value.specs.declared.faults.CellFault.{CellFault};
 ghost use Rattle.tall_blocks.specs.Cut.{AreAligned, AreCut, AreOfStore, IsCutWork};
 ghost use Rattle.tall_blocks.specs.FoldsOfBlocks.{AreAsLong};
+ghost use Rattle.tall_blocks.specs.PassWork.{AreScalarsLower, IsCutFor, cut_at};
 ghost use Rattle.tall_blocks.specs.SeenFaults.{AreSeen, IsBlockwise};
 ghost use Rattle.tall_blocks.specs.ValuesOver.{AreParts, IsOver, block_outcomes, next_cells, outcomes_over, rows_of_blocks, no_cells};
 
 /// Behind no cells a scan is that of the definition; behind some rows it goes on behind their cells too. The fold of the
-/// cells before, where it is there, stands for all of them as one cell: a block is scanned from its carry. Where there is no
+/// cells before, where it is there, stands for all of them as one cell, of the scan's class: a block is scanned from its carry. Where there is no
 /// fold the scan has failed before.
 pub fn scans_go_on_from_a_carry()
     ensures start { (s : Scan) (a : Kind) (rs : Rows) → AllCells (HasScanKind a) (cells rs) → scanned_behind s a [] rs ≡ scanned s a rs }
     ensures goes_on { (s : Scan) (a : Kind) (before : List Seen) (rs ss : Rows) → scanned_behind s a before (rs ++ ss) ≡ rows_joined (scanned_behind s a before rs) (scanned_behind s a (before ++ cells rs) ss) }
     ensures stands { (s : Scan) (a : Kind) (before cs : List Seen) (c : Seen) → fold_of s a before ≡ Some c → AllCells (IsInClass a) cs → fold_of s a (c ∷ cs) ≡ fold_of s a (before ++ cs) }
     ensures from_its_carry { (s : Scan) (a : Kind) (before : List Seen) (rs : Rows) (c : Seen) → fold_of s a before ≡ Some c → AllCells (IsInClass a) (cells rs) → scanned_behind s a (c ∷ []) rs ≡ scanned_behind s a before rs }
+    ensures class { (s : Scan) (a k : Kind) (cs : List Seen) (c : Seen) → scan_kind s a ≡ Ok k → AllCells (HasScanKind a) cs → fold_of s a cs ≡ Some c → seen_kind c ≡ k }
     ensures failed { (s : Scan) (a : Kind) (rs : Rows) → fold_of s a (cells rs) ≡ None → (e : ℕ × CellFault) × (scanned_behind s a [] rs ≡ Err e) }
 {}
 
@@ -71,7 +78,14 @@ pub fn a_pass_by_blocks_gives_the_values()
 {}
 
 /// What a pass over blocks stands on can be met: a column, its logical cells, a constant over these, and a running sum, over
-/// two blocks of a row each.
+/// two blocks of a row each. So can all together that is asked of the pass of the first level, with no candidate yet.
 pub fn premises_can_be_met()
-    ensures { IsBlockwise whole_columns (λ s. 1 ∷ 2 ∷ []) vertices value 0 cut blocks }
+    ensures blockwise { IsBlockwise whole_columns (λ s. 1 ∷ 2 ∷ []) vertices value 0 cut blocks }
+    ensures gather { IsGather whole_columns vertices value (levels_in value) (3 ∷ 4 ∷ []) (needed_of vertices (3 ∷ 4 ∷ [])) }
+    ensures candidate { IsLeast (own_in vertices value) (UpTo (nodes_by vertices value (levels_in value)) (IsAmong (needed_of vertices (3 ∷ 4 ∷ []))) 0) None }
+    ensures pass { IsCutFor 0 vertices value (levels_in value) (chains_in value) (needed_of vertices (3 ∷ 4 ∷ [])) 1 None (cut_at 0 vertices value (levels_in value) (needed_of vertices (3 ∷ 4 ∷ [])) 1 None) }
+    ensures scalars { AreScalarsLower vertices value (levels_in value) }
+    ensures scans { AreScans vertices (scans_by vertices value (chains_in value)) (levels_in value) }
+    ensures parts { AreBlocksOf whole_columns vertices (cut_at 0 vertices value (levels_in value) (needed_of vertices (3 ∷ 4 ∷ [])) 1 None) blocks
+        × AreTables vertices (cut_at 0 vertices value (levels_in value) (needed_of vertices (3 ∷ 4 ∷ [])) 1 None) blocks × AreAscending blocks }
 {}

@@ -13,8 +13,8 @@ ghost use Rattle.tall_semantics.specs.RowsOfSpaces.{AreColumns};
 ghost use Rattle.tall_semantics.specs.ScanLevels.{AreScans, scans_by};
 ghost use Rattle.tall_blocks.specs.Blocks.{AreAscending, AreBlocksOf, AreTables, Block};
 ghost use Rattle.tall_blocks.specs.Cut.{IsCutWork, IsOfRows};
-ghost use Rattle.tall_blocks.specs.PassWork.{AreScalarsLower, IsCutAt, IsCutFor, IsEndOf, IsWorkOf, cut_at};
-ghost use Rattle.tall_blocks.specs.Pieces.{AreScansFree, fault_from, has_rows_of, pass_blocks};
+ghost use Rattle.tall_blocks.specs.PassWork.{AreScalarsLower, IsCutAt, IsCutFor, IsDueOf, IsEndOf, IsWorkOf, cut_at};
+ghost use Rattle.tall_blocks.specs.Pieces.{AreScansFree, carry_in, fault_from, has_rows_of, pass_blocks, store_blocks};
 ghost use Rattle.tall_blocks.specs.SeenFaults.{IsBlockwise};
 
 /// All that a pass may compute is told by a test, and serves; all that has rows of a datastore has them with its operands. By levels and by ranks a scalar that a value with rows is made
@@ -32,7 +32,7 @@ pub fn the_values_of_a_pass_are_told()
 /// After the passes of the levels up to k, with the candidate c, what the next level's pass computes can be cut into blocks,
 /// with all that its work needs of the lower levels. What stands below the level has no own fault, so the least fault that is
 /// found block by block is that of the level's work with rows of the datastore; what is cut and numbered below it has no fault,
-/// nor has the operand of a scan.
+/// nor has the operand of a scan. The carries that the pass needs, and those that are due, are those of the datastore's blocks.
 /// The least fault of all work of the pass is the earlier of it and of those of the reductions, ends, distinct values and
 /// groups: of these only the ones numbered below it are looked at.
 pub fn a_pass_finds_the_fault_of_its_level()
@@ -57,6 +57,9 @@ pub fn a_pass_finds_the_fault_of_its_level()
     ensures scans { (columns : Columns) (of_stores : ℕ → List ℕ) (vs : List Vertex) (f : ℕ → Tall) (levels carried : ℕ → ℕ) (roots needed : List ℕ) → IsGather columns vs f levels roots needed
         → (store k : ℕ) (c : Option Fault) → IsLeast (own_in vs f) (UpTo (nodes_by vs f levels) (IsAmong needed) k) c → (cut : ℕ → Bool) → IsCutFor store vs f levels carried needed (k + 1) c cut
         → (all : List ℕ) → ((i : ℕ) → IsAmong all i ↔ (cut i ≡ true)) → AreScans vs (scans_by vs f carried) levels → AreScansFree vs f all }
+    ensures carries { (columns : Columns) (of_stores : ℕ → List ℕ) (vs : List Vertex) (f : ℕ → Tall) (levels carried : ℕ → ℕ) (roots needed : List ℕ) → IsGather columns vs f levels roots needed
+        → (store k : ℕ) (c : Option Fault) → (cut : ℕ → Bool) → IsCutFor store vs f levels carried needed (k + 1) c cut
+        → (bs : List Block) (n i : ℕ) → (cut i ≡ true) ⊎ IsDueOf store vs f carried needed (k + 1) c i → carry_in vs f (pass_blocks vs f cut bs) i n ≡ carry_in vs f (store_blocks vs f store bs) i n }
     ensures ends { (columns : Columns) (of_stores : ℕ → List ℕ) (vs : List Vertex) (f : ℕ → Tall) (levels carried : ℕ → ℕ) (roots needed : List ℕ) → IsGather columns vs f levels roots needed
         → (store k : ℕ) (c : Option Fault) → IsLeast (own_in vs f) (UpTo (nodes_by vs f levels) (IsAmong needed) k) c → (cut : ℕ → Bool) → IsCutFor store vs f levels carried needed (k + 1) c cut
         → (all : List ℕ) → ((i : ℕ) → IsAmong all i ↔ (cut i ≡ true)) → AreNumbered vs → AreColumns columns of_stores vs → AreScalarsLower vs f levels → (bs : List Block) → AreBlocksOf columns vs cut bs → AreTables vs cut bs → AreAscending bs

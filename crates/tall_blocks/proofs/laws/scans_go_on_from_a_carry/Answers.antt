@@ -1,5 +1,5 @@
 use Rattle.tall_blocks.proofs.CarryLaws.{scan_begins}
-use Rattle.tall_blocks.proofs.CarryPlaceLaws.{carry_stands, from_carry, fold_failed}
+use Rattle.tall_blocks.proofs.CarryPlaceLaws.{carry_class, carry_stands, from_carry, fold_failed}
 use Rattle.tall_blocks.proofs.RowLaws.{scan_then}
 use Rattle.tall_blocks.proofs.laws.scans_go_on_from_a_carry.Goals as goal
 
@@ -17,3 +17,6 @@ returns-clause-from_its_carry c = from_carry
 
 pub returns-clause-failed : goal.returns-clause-failed
 returns-clause-failed c = fold_failed
+
+pub returns-clause-class : goal.returns-clause-class
+returns-clause-class c = carry_class

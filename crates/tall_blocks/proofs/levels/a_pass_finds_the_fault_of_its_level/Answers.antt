@@ -16,6 +16,7 @@ use Rattle.tall_blocks.specs.ValuesOver.{no_cells}
 use Rattle.tall_blocks.proofs.BlockLaws.{over_others}
 use Rattle.tall_blocks.proofs.PassLaws.{can, whole}
 use Rattle.tall_blocks.proofs.PassWorkLaws.{level_of_store, level_work, level_found, cut_no_fault, level_ends, scans_free}
+use Rattle.tall_blocks.proofs.PassCarryLaws.{pass_carries}
 use Rattle.tall_blocks.proofs.PieceLaws.{found_all}
 use Rattle.tall_blocks.proofs.levels.a_pass_finds_the_fault_of_its_level.Goals as goal
 
@@ -71,3 +72,6 @@ returns-clause-ends g columns of_stores vs f levels carried roots needed gather 
 
 pub returns-clause-scans : goal.returns-clause-scans
 returns-clause-scans g = scans_free
+
+pub returns-clause-carries : goal.returns-clause-carries
+returns-clause-carries g = pass_carries
