@@ -17,7 +17,7 @@ use Rattle.tall_semantics.specs.Outcomes.{Outcome, rows, fault, fault_of, rows_i
 use Rattle.tall_semantics.specs.Talls.{Tall, Columns}
 use Rattle.tall_semantics.specs.Deferred.{Vertex, IsOrdered, IsAmong, own_in, fault_in, least_in}
 use Rattle.tall_semantics.specs.Least.{AtMost, IsLeast, IsBelow}
-use Rattle.tall_semantics.specs.Numbered.{number_at}
+use Rattle.tall_semantics.specs.Numbered.{AreNumbered, number_at}
 use Rattle.tall_semantics.specs.Plans.{is_store, is_scan, is_scan_at}
 use Rattle.tall_semantics.proofs.Basics.{inside, both}
 use Rattle.tall_semantics.proofs.InOrderLaws.{same_values}
@@ -169,9 +169,67 @@ module _ (columns : Columns) (of_stores : ℕ → List ℕ) (vs : List Vertex) (
         (p, below_all (λ k. carry_in vs f Hs k n) work (number_at (slice_get vs i)) (λ j m lacks. lacking free n l (number_at (slice_get vs i)) j m lacks below));
     }
 
--- ---- a block's scan from its carry
+-- ---- what is looked at
+
+less_is : (m n : ℕ) → nat_lt m n ≡ true → m < n
+less_is m n h = grind (arith, nat_tests)
+
+tests_both : (l t r : Bool) → ((not l || t) && r) ≡ true → (l ≡ true → t ≡ true) × (r ≡ true)
+tests_both true true r h = ((λ e. refl), h)
+tests_both true false r h = absurd (cc)
+tests_both false t r h = ((λ e. absurd (cc)), h)
+
+below_each : (vs : List Vertex) (carry : ℕ → Option Seen) (js : List ℕ) (n j : ℕ) → is_below_missing vs carry js n ≡ true → IsAmong js j → lacks_carry vs carry j ≡ true → n < number_at (slice_get vs j)
+below_each vs carry [] n j h m l = absurd m
+below_each vs carry (k ∷ js) n j h m l =
+    let w = tests_both (lacks_carry vs carry k) (nat_lt n (number_at (slice_get vs k))) (is_below_missing vs carry js n) h in
+    elim m [
+      | inl e ↦ less_is n (number_at (slice_get vs j)) (subst (λ i. nat_lt n (number_at (slice_get vs i)) ≡ true) e (w.0 (subst (λ i. lacks_carry vs carry i ≡ true) (sym e) l)))
+      | inr r ↦ below_each vs carry js n j w.1 r l
+    ]
+
+below_lower : (vs : List Vertex) (carry : ℕ → Option Seen) (js : List ℕ) (m n : ℕ) → m ≤ n → is_below_missing vs carry js n ≡ true → is_below_missing vs carry js m ≡ true
+below_lower vs carry [] m n l h = refl
+below_lower vs carry (k ∷ js) m n l h =
+    let w = tests_both (lacks_carry vs carry k) (nat_lt n (number_at (slice_get vs k))) (is_below_missing vs carry js n) h in
+    join (lacks_carry vs carry k) (nat_lt m (number_at (slice_get vs k))) (is_below_missing vs carry js m)
+    (λ e. less_test m (number_at (slice_get vs k)) (let q : n < number_at (slice_get vs k) = less_is n (number_at (slice_get vs k)) (w.0 e) in omega (arith, l, q))) (below_lower vs carry js m n l w.1)
+  where
+    join : (l t r : Bool) → (l ≡ true → t ≡ true) → r ≡ true → ((not l || t) && r) ≡ true
+    join true true r h g = g
+    join true false r h g = absurd (let z : false ≡ true = h refl in cc)
+    join false t r h g = g
+
+    less_test : (m n : ℕ) → m < n → nat_lt m n ≡ true
+    less_test m n l = grind (arith, nat_tests)
+
+-- an operand is looked at with what is made of it
+pub looked_closed : (vs : List Vertex) → AreNumbered vs → (carry : ℕ → Option Seen) (work : List ℕ) (i a : ℕ) (v w : Vertex) → IsAmong (looked_at vs carry work) i → slice_get vs i ≡ Some v → IsAmong v.args a → slice_get vs a ≡ Some w → IsAmong work a → IsAmong (looked_at vs carry work) a
+looked_closed vs numbered carry work i a v w h e m g p =
+    let t = (among_filter (λ j. is_below_missing vs carry work (number_at (slice_get vs j))) work i).0 h in
+    let l : w.at.number ≤ v.at.number = numbered.lower i a v w e m g in
+    let x : number_at (slice_get vs i) ≡ v.at.number = number_of_vertex (slice_get vs i) v e in
+    let y : number_at (slice_get vs a) ≡ w.at.number = number_of_vertex (slice_get vs a) w g in
+    (among_filter (λ j. is_below_missing vs carry work (number_at (slice_get vs j))) work a).1 (p, below_lower vs carry work (number_at (slice_get vs a)) (number_at (slice_get vs i)) (omega (arith, l, x, y)) t.1)
+
+-- a scan that is looked at has its carry
+pub looked_carried : (vs : List Vertex) (carry : ℕ → Option Seen) (work : List ℕ) (i : ℕ) → IsAmong (looked_at vs carry work) i → is_scan_at (slice_get vs i) ≡ true → (c : Seen) × (carry i ≡ Some c)
+looked_carried vs carry work i h s = of_carry (carry i) refl
+  where
+    of_carry : (o : Option Seen) → carry i ≡ o → (c : Seen) × (carry i ≡ Some c)
+    of_carry (Some c) e = (c, e)
+    of_carry None e =
+        let t = (among_filter (λ j. is_below_missing vs carry work (number_at (slice_get vs j))) work i).0 h in
+        let lacks : lacks_carry vs carry i ≡ true = ap (λ b. b && is_missing (carry i)) s ∙ ap is_missing e in
+        absurd (let l : number_at (slice_get vs i) < number_at (slice_get vs i) = below_each vs carry work (number_at (slice_get vs i)) i t.1 t.0 lacks in omega (arith, l))
+
+module _ (columns : Columns) (of_stores : ℕ → List ℕ) (vs : List Vertex) (f : ℕ → Tall) (store : ℕ) (cut : ℕ → Bool) (bs : List Block) (pass : IsBlockwise columns of_stores vs f store cut bs) where
+  -- ---- a block's scan from its carry
 
   -- behind the blocks before, a scan is behind the cells that its operand has in these
+  CanHere : AreCut f cut vs
+  CanHere = are_cut columns vs f cut store pass.meaning pass.of_store
+
   before_block : (rest : List Block) (so_far : ℕ → List Seen) (n : ℕ) (h : ℕ → Outcome) → slice_get (block_outcomes vs f cut so_far rest) n ≡ Some h
       → (b : Block) × (before : ℕ → List Seen) × (slice_get rest n ≡ Some b) × IsOver (block_columns b) before vs f cut h
       × ((i a : ℕ) (v : Vertex) (s : Scan) → slice_get vs i ≡ Some v → v.made ≡ operation (scan s) → v.args ≡ a ∷ [] → before i ≡ so_far i ++ flat (take n (cells_by_block (block_outcomes vs f cut so_far rest) a)))
@@ -201,7 +259,7 @@ module _ (columns : Columns) (of_stores : ℕ → List ℕ) (vs : List Vertex) (
       let kept : carry_for s kind (cells_by_block hs a) n ≡ Some c = sym (ap (λ o. carry_at f hs o n) g ∙ (ap (λ m. carry_of f hs m v.args n) q ∙ ap (λ xs. carry_of f hs (operation (scan s)) xs n) r)) ∙ carry in
       let fold = carry_there s kind (cells_by_block hs a) n c kept in
       let no_args : least_in (value_over f h) v.args ≡ None = ap (least_in (value_over f h)) r ∙ all_none (fault_in (value_over f h)) (a ∷ []) (λ d m. elim m [ inl t ↦ ap (fault_in (value_over f h)) (sym t) ∙ none | inr z ↦ absurd z ]) in
-      own_of w.3 Can i v (scan s) g is_cut q no_args
+      own_of w.3 CanHere i v (scan s) g is_cut q no_args
       ∙ (ap (λ xs. own_over (w.1 i) v.at (scan s) (map (value_over f h) xs)) r
       ∙ (ap (λ before. row_by_row v.at (scanned_behind s kind before (rows_in (h a)))) (w.4 i a v s g q r)
       ∙ ap (row_by_row v.at) (sym (from_carry s kind (flat (take n (cells_by_block hs a))) (rows_in (h a)) c fold within))))

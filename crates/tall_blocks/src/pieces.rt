@@ -9,6 +9,8 @@ ghost use Rattle.tall_semantics.specs.Outcomes.{Outcome, cells_in, fault_of, row
 ghost use Rattle.tall_semantics.specs.Talls.{Columns, Tall};
 ghost use Rattle.tall_semantics.specs.Deferred.{IsAmong, IsOrdered, Vertex, own_in};
 ghost use Rattle.tall_semantics.specs.Least.{IsLeast};
+ghost use Rattle.tall_semantics.specs.Numbered.{AreNumbered};
+ghost use Rattle.tall_semantics.specs.Plans.{is_scan_at};
 ghost use Rattle.tall_blocks.specs.Blocks.{Block, all_rows, block_columns};
 ghost use Rattle.tall_blocks.specs.Carries.{AllCells, IsInClass, flat, scanned_behind};
 ghost use Rattle.tall_blocks.specs.Cut.{IsCutWork, IsOfRows};
@@ -38,7 +40,8 @@ pub fn a_block_is_computed_from_its_carries()
 /// The least fault of a pass goes from block to block: it is the earlier of what was found before and what is seen in the
 /// block. So it is over the first blocks, and over all. A block's work may leave out what isn't numbered below the least fault
 /// of the blocks before; and where a scan's carry is missing, the scan and all that isn't numbered below it are not, since the
-/// scan's own fault lies in an earlier block.
+/// scan's own fault lies in an earlier block. An operand is looked at with what is made of it, and each scan that is looked at
+/// has its carry.
 pub fn the_least_fault_goes_from_block_to_block()
     ensures all { (columns : Columns) (of_stores : ℕ → List ℕ) (vs : List Vertex) (f : ℕ → Tall) (store : ℕ) (cut : ℕ → Bool) (bs : List Block) → IsBlockwise columns of_stores vs f store cut bs
         → (work : List ℕ) → IsCutWork vs cut (IsAmong work) → IsLeast (own_in vs f) (IsAmong work) (fault_from vs f work None (pass_blocks vs f cut bs)) }
@@ -52,6 +55,9 @@ pub fn the_least_fault_goes_from_block_to_block()
     ensures missing { (columns : Columns) (of_stores : ℕ → List ℕ) (vs : List Vertex) (f : ℕ → Tall) (store : ℕ) (cut : ℕ → Bool) (bs : List Block) → IsBlockwise columns of_stores vs f store cut bs
         → (work : List ℕ) → IsCutWork vs cut (IsAmong work) → AreScansFree vs f work → (n : ℕ) → n < length (pass_blocks vs f cut bs)
         → IsLookedAt vs work (fault_from vs f work None (take n (pass_blocks vs f cut bs))) (looked_at vs (λ i. carry_in vs f (pass_blocks vs f cut bs) i n) work) }
+    ensures closed { (vs : List Vertex) → AreNumbered vs → (carry : ℕ → Option Seen) (work : List ℕ) (i a : ℕ) (v w : Vertex) → IsAmong (looked_at vs carry work) i → slice_get vs i ≡ Some v → IsAmong v.args a → slice_get vs a ≡ Some w
+        → IsAmong work a → IsAmong (looked_at vs carry work) a }
+    ensures carried { (vs : List Vertex) (carry : ℕ → Option Seen) (work : List ℕ) (i : ℕ) → IsAmong (looked_at vs carry work) i → is_scan_at (slice_get vs i) ≡ true → (c : Seen) × (carry i ≡ Some c) }
     ensures associative { (c d e : Option Fault) → earlier c (earlier d e) ≡ earlier (earlier c d) e }
     ensures none_behind { (c : Option Fault) → earlier c None ≡ c }
 {}

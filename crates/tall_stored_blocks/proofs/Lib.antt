@@ -1,1 +1,2 @@
 pub mod StoredBlockLaws
+pub mod SampleLaws

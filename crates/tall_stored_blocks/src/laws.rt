@@ -3,7 +3,8 @@ ghost use Rattle.std.specs.Prelude.{◌≡◌, ◌<◌, ℕ, Bool, true, List, N
 ghost use Rattle.tall_outside.specs.Shelf.{Files};
 ghost use Rattle.tall_value.specs.declared.class.Class.{Class};
 ghost use Rattle.tall_cut.specs.Rows.{Fields};
-ghost use Rattle.tall_semantics.specs.Deferred.{Vertex};
+ghost use Rattle.tall_semantics.specs.Deferred.{IsMeaning, Vertex};
+ghost use Rattle.tall_semantics.specs.InOrder.{tall_in, talls};
 ghost use Rattle.tall_semantics.specs.Operations.{stored};
 ghost use Rattle.tall_semantics.specs.Outcomes.{fault};
 ghost use Rattle.tall_semantics.specs.Talls.{Columns, Tall};
@@ -12,6 +13,7 @@ ghost use Rattle.tall_store.specs.declared.faults.ReadingFault.{ReadingFault};
 ghost use Rattle.tall_store.specs.Blocks.{HasRows, IsCutting, all_blocks, blocks_from};
 ghost use Rattle.tall_store.specs.Stored.{first_fault};
 ghost use Rattle.tall_stored.specs.StoredColumns.{AreStored, Store, fault_of_reading, variable_class};
+ghost use Rattle.tall_stored_blocks.specs.BlocksOfFiles.{held, stores, vertices, y_of_two_files};
 ghost use Rattle.tall_stored_blocks.specs.StoredBlocks.{blocks_of, columns_of};
 
 /// The columns of a list of datastores are stored columns of each graph whose variables are theirs.
@@ -40,4 +42,12 @@ pub fn blocks_of_files_are_blocks_of_columns()
     ensures reading { (files : Files) (stores : List Store) (vs : List Vertex) (columns : Columns) → AreStored files stores vs columns → (place : ℕ) (d : Store) → slice_get stores place ≡ Some d
         → (g : ReadingFault) → first_fault d.store files ≡ Some g → (i : ℕ) (v : Vertex) (variable : ℕ) (class : Class) → slice_get vs i ≡ Some v → v.made ≡ stored place variable class
         → columns place variable ≡ fault (fault_of_reading place d.at g) }
+{}
+
+/// What these laws ask for can be met: a datastore of two files with a variable, and its sum.
+pub fn premises_can_be_met()
+    ensures stored { AreStored held stores vertices (columns_of held stores) }
+    ensures meaning { IsMeaning (columns_of held stores) vertices (tall_in (talls (columns_of held stores) vertices)) }
+    ensures no_fault { first_fault y_of_two_files held ≡ None }
+    ensures sizes { HasRows y_of_two_files.size }
 {}

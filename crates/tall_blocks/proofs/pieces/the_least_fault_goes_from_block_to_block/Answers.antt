@@ -1,5 +1,5 @@
 use Rattle.tall_blocks.proofs.PieceLaws.{earlier_assoc, earlier_none, found_all, found_first, looked_enough}
-use Rattle.tall_blocks.proofs.PieceCarryLaws.{looked_by_carries}
+use Rattle.tall_blocks.proofs.PieceCarryLaws.{looked_by_carries, looked_carried, looked_closed}
 use Rattle.tall_blocks.proofs.pieces.the_least_fault_goes_from_block_to_block.Goals as goal
 
 pub returns-clause-all : goal.returns-clause-all
@@ -19,3 +19,9 @@ returns-clause-associative c = earlier_assoc
 
 pub returns-clause-none_behind : goal.returns-clause-none_behind
 returns-clause-none_behind c = earlier_none
+
+pub returns-clause-closed : goal.returns-clause-closed
+returns-clause-closed c = looked_closed
+
+pub returns-clause-carried : goal.returns-clause-carried
+returns-clause-carried c = looked_carried
