@@ -1,36 +1,33 @@
 -- Scans behind some cells: from none on they are the definition's; the fold of the cells before, where there is one, stands
 -- for all of them; and where there is none the scan has failed before.
-use Rattle.std.specs.Prelude.{◌≡◌, refl, ℤ, ℕ, pos, ◌+◌, ◌+ℤ◌, ◌≤ℤ◌, ◌⊎◌, ◌^◌, nat_le, unsigned_abs, if◌then◌else◌, ◌||◌, Bool, true, false, Option, None, Some, Result, Ok, Err, List, [], ◌∷◌, ◌++◌, map, slice_get}
+use Rattle.std.specs.Prelude.{◌≡◌, refl, ℤ, ℕ, pos, ◌+ℤ◌, ◌⊎◌, ◌^◌, nat_le, unsigned_abs, if◌then◌else◌, ◌||◌, Bool, true, false, Option, None, Some, Result, Ok, Err, List, [], ◌∷◌, ◌++◌, map, slice_get}
 use Rattle.std.proofs.Common.{ap, sym, subst, ◌∙◌, arith, inl, inr}
-use Rattle.std.specs.List.{All, cons_option, filter_map, list_any}
-use Rattle.std.specs.Ordering.{is_lt, int_cmp}
-use Rattle.std.proofs.lemmas.Int.{ints, clamps}
-use Rattle.std.proofs.lemmas.List.{append_assoc, append-nil}
+use Rattle.std.specs.List.{All, cons_option, filter_map}
+use Rattle.std.specs.Ordering.{is_lt}
+use Rattle.std.proofs.lemmas.Int.{ints}
+use Rattle.std.proofs.lemmas.List.{append-nil}
 use Rattle.std.proofs.lemmas.List.Elements.{All-head, All-tail, filter-append, filter_map-append}
 use Rattle.tall_int.specs.Doubles.{whole_add}
-use Rattle.tall_int.specs.Numbers.{nearest}
 use Rattle.tall_int.specs.Sums.{clamped_sum}
 use Rattle.tall_int.specs.declared.faults.WholeFault.{WholeFault}
 use Rattle.tall_int.specs.declared.faults.WholeFault.TheVariants as whole_fault
 use Rattle.tall_value.specs.declared.class.IntKind.{IntKind}
-use Rattle.tall_value.specs.declared.class.IntKind.TheVariants.{Int8, Int16, Int32, Int64, Uint8, Uint16, Uint32, Uint64}
 use Rattle.tall_value.specs.declared.class.Kind.{Kind}
 use Rattle.tall_value.specs.declared.class.Kind.TheVariants.{Integer, Logical, Double, Text}
 use Rattle.tall_value.specs.declared.faults.CellFault.{CellFault}
-use Rattle.tall_value.specs.declared.faults.CellFault.TheVariants.{Inexact}
 use Rattle.tall_value.specs.declared.functions.Scan.{Scan}
 use Rattle.tall_value.specs.declared.functions.Scan.TheVariants.{CumSum, CumMin, CumMax}
-use Rattle.tall_value.specs.Cells.{Seen, whole, logical, double, text, seen_kind, amount, is_nan}
+use Rattle.tall_value.specs.Cells.{Seen, whole, logical, double, text, seen_kind, amount}
 use Rattle.tall_value.specs.CellOperators.{double_cell, to_double}
 use Rattle.tall_value.specs.CellOrder.{cell_order}
 use Rattle.tall_value.specs.Classes.{least, greatest}
 use Rattle.tall_value.specs.Columns.{cells}
 use Rattle.tall_value.specs.Elementwise.{at_row, in_front}
 use Rattle.tall_value.specs.Groups.{or_nan}
-use Rattle.tall_value.specs.Reductions.{or_fault, present, is_present, total, lesser, greater, fold, folded}
+use Rattle.tall_value.specs.Reductions.{or_fault, present, is_present, lesser, greater, fold, folded}
 use Rattle.tall_value.specs.Scans.{added, integer_sums, double_sums, better, bests, scanned}
 use Rattle.tall_value.specs.declared.class.Class.{Class}
-use Rattle.tall_value.specs.Classes.{class_of, kind_of}
+use Rattle.tall_value.specs.Classes.{kind_of}
 use Rattle.tall_value.specs.ClassTables.{class_result}
 use Rattle.tall_value.specs.FunctionClasses.{scan_kind, scan_class}
 use Rattle.tall_value.proofs.KindLaws.{kind_again}
@@ -47,9 +44,9 @@ use Rattle.tall_semantics.proofs.ClassLaws.{value_class}
 use Rattle.tall_semantics.proofs.MeaningLaws.{made_value, tall_shape}
 use Rattle.tall_semantics.proofs.OriginLaws.{get_before, below_among}
 use Rattle.tall_semantics.proofs.ShapeLaws.{place_ok, shaped_is, column_is}
-use Rattle.tall_blocks.specs.Carries.{Rows, RowsOrFault, rows_joined, or_inexact, scanned_behind, AllCells, HasScanKind, IsInClass}
-use Rattle.tall_blocks.specs.Folds.{exact_sum, value_of, best_joined, joined}
-use Rattle.tall_blocks.proofs.Choices.{true_or_false, if_true, if_false}
+use Rattle.tall_blocks.specs.Carries.{Rows, or_inexact, scanned_behind, AllCells, HasScanKind}
+use Rattle.tall_blocks.specs.Folds.{exact_sum, value_of, best_joined}
+use Rattle.tall_blocks.proofs.Choices.{true_or_false}
 use Rattle.tall_blocks.proofs.FoldLaws.{value_joined, folded_append, clamped_append, greater_assoc, lesser_assoc}
 
 abbrev class_ok : Class → Result Class Refusal

@@ -1,6 +1,6 @@
 -- The fold of some cells stands for them as one cell; where it is out of range the scan has failed; and the carry of a block
 -- is the fold of the cells of the blocks before.
-use Rattle.std.specs.Prelude.{◌≡◌, refl, ℤ, ℕ, zero, suc, pos, ◌<◌, ◌≤◌, ◌+◌, ◌+ℤ◌, ◌≤ℤ◌, ◌⊎◌, ◌^◌, nat_le, unsigned_abs, if◌then◌else◌, Bool, true, false, Option, None, Some, Result, Ok, Err, List, [], ◌∷◌, ◌++◌, get_or, length, map, take}
+use Rattle.std.specs.Prelude.{◌≡◌, refl, ℤ, ℕ, zero, suc, pos, ◌<◌, ◌≤◌, ◌+ℤ◌, ◌≤ℤ◌, ◌⊎◌, ◌^◌, nat_le, unsigned_abs, if◌then◌else◌, Bool, true, false, Option, None, Some, Result, Ok, Err, List, [], ◌∷◌, ◌++◌, get_or, length, map, take}
 use Rattle.std.proofs.Common.{ap, sym, subst, ◌∙◌, arith, inl, inr}
 use Rattle.std.specs.List.{filter_map}
 use Rattle.std.specs.Ordering.{is_lt, int_cmp}
@@ -11,8 +11,6 @@ use Rattle.std.proofs.lemmas.List.{append_assoc, append-nil, length-map, map-app
 use Rattle.std.proofs.lemmas.List.Elements.{filter_map-append}
 use Rattle.tall_int.specs.Numbers.{nearest}
 use Rattle.tall_int.specs.Sums.{clamped_sum}
-use Rattle.tall_int.specs.declared.faults.WholeFault.{WholeFault}
-use Rattle.tall_int.specs.declared.faults.WholeFault.TheVariants as whole_fault
 use Rattle.tall_value.specs.declared.class.IntKind.{IntKind}
 use Rattle.tall_value.specs.declared.class.IntKind.TheVariants.{Int8, Int16, Int32, Int64, Uint8, Uint16, Uint32, Uint64}
 use Rattle.tall_value.specs.declared.class.Kind.{Kind}
@@ -26,15 +24,13 @@ use Rattle.tall_value.specs.FunctionClasses.{scan_kind}
 use Rattle.tall_value.specs.Groups.{or_nan}
 use Rattle.tall_value.specs.Cells.{Seen, whole, logical, double, text, seen_kind, amount}
 use Rattle.tall_value.specs.CellOperators.{double_cell}
-use Rattle.tall_value.specs.CellOrder.{cell_order}
 use Rattle.tall_value.specs.Classes.{least, greatest}
 use Rattle.tall_value.specs.Columns.{cells}
 use Rattle.tall_value.specs.Elementwise.{at_row}
 use Rattle.tall_value.specs.Reductions.{present, is_present, lesser, greater, fold, folded}
 use Rattle.tall_semantics.specs.ScanCarries.{or_cell, fold_of, while_there, carries_behind}
 use Rattle.tall_blocks.specs.Carries.{Rows, RowsOrFault, flat, rows_joined, or_inexact, scanned_behind, carry_for, AllCells, HasScanKind, IsInClass}
-use Rattle.tall_blocks.proofs.Choices.{true_or_false, if_true, if_false}
-use Rattle.tall_blocks.proofs.CarryLaws.{IsNumber, all_both, of_sum, of_test, to_fold, sum_of, plus, sums_add, sum_of_one, class_total, best_stands, end_stands, lesser_chooses, greater_chooses}
+use Rattle.tall_blocks.proofs.CarryLaws.{all_both, of_sum, of_test, to_fold, sum_of, plus, sums_add, sum_of_one, class_total, best_stands, end_stands, lesser_chooses, greater_chooses}
 use Rattle.tall_blocks.proofs.RowLaws.{scan_then}
 use Rattle.tall_blocks.proofs.FoldLaws.{clamped_append, greater_assoc, lesser_assoc}
 
@@ -323,6 +319,8 @@ pub scan_failed : (s : Scan) (a : Kind) (blocks : List Rows) (n : ℕ) → n < l
 scan_failed s a blocks n l e =
     let w = carry_missing s a (map cells blocks) n (let k = length-map blocks cells in omega (arith, l, k)) e in
     let f = fold_failed s a (flat (take w.0 blocks)) (ap (fold_of s a) (cells_flat blocks w.0) ∙ w.2) in
-    let rest = more_blocks blocks w.0 n w.1 in
-    (f.0, ap (scanned_behind s a []) rest.1
-    ∙ (scan_then s a [] (flat (take w.0 blocks)) rest.0 ∙ ap (λ x. rows_joined x (scanned_behind s a ([] ++ cells (flat (take w.0 blocks))) rest.0)) f.1))
+    let rest = more_blocks blocks w.0 n w.1 in (
+      f.0,
+      ap (scanned_behind s a []) rest.1
+          ∙ (scan_then s a [] (flat (take w.0 blocks)) rest.0 ∙ ap (λ x. rows_joined x (scanned_behind s a ([] ++ cells (flat (take w.0 blocks))) rest.0)) f.1),
+    )

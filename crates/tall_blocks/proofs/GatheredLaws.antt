@@ -1,7 +1,6 @@
 -- What is kept block by block for values that need all rows gives their outcomes.
-use Rattle.std.specs.Prelude.{◌≡◌, refl, ℕ, pos, Bool, true, false, if◌then◌else◌, Option, None, Some, Result, Ok, Err, List, [], ◌∷◌, map, slice_get, get_or}
+use Rattle.std.specs.Prelude.{◌≡◌, refl, ℕ, pos, Bool, true, false, None, Some, Result, Ok, Err, List, [], ◌∷◌, map, slice_get}
 use Rattle.std.proofs.Common.{ap, sym, subst, ◌∙◌, inl, inr}
-use Rattle.tall_value.specs.declared.class.Class.{Class}
 use Rattle.tall_value.specs.declared.class.Kind.{Kind}
 use Rattle.tall_value.specs.declared.faults.FaultKind.{FaultKind}
 use Rattle.tall_value.specs.declared.functions.Method.{Method}
@@ -10,30 +9,28 @@ use Rattle.tall_value.specs.declared.functions.Reduction.{Reduction}
 use Rattle.tall_value.specs.Cells.{Seen, double}
 use Rattle.tall_value.specs.Classes.{kind_of}
 use Rattle.tall_value.specs.Columns.{numbered}
-use Rattle.tall_value.specs.Distinct.{distinct}
 use Rattle.tall_value.specs.Elementwise.{in_front}
-use Rattle.tall_value.specs.Ends.{first_rows, last_rows}
-use Rattle.tall_value.specs.Groups.{group_keys, group_counts, group_values, all_values}
-use Rattle.tall_value.specs.GroupSummary.{value_columns, summary_columns, of_groups, summary}
+use Rattle.tall_value.specs.Groups.{group_counts, group_values}
+use Rattle.tall_value.specs.GroupSummary.{value_columns, summary_columns, of_groups}
 use Rattle.tall_semantics.specs.Operations.{Op, constant, unary, binary, filter, reduce, scan, head, tail, group, Part, Made, stored, operation}
 use Rattle.tall_semantics.specs.Operations as operations
 use Rattle.tall_semantics.specs.Chains.{needs_all_rows}
 use Rattle.tall_semantics.specs.Plans.{is_scan}
-use Rattle.tall_semantics.specs.Faults.{At, Fault, least_fault}
+use Rattle.tall_semantics.specs.Faults.{At, least_fault}
 use Rattle.tall_semantics.specs.Outcomes.{Outcome, rows, fault_of, rows_in, cells_in, alone, part_of_group, grouped}
 use Rattle.tall_semantics.specs.Shapes.{Shape, place_of, on_column}
 use Rattle.tall_semantics.specs.Shapes as shaping
-use Rattle.tall_semantics.specs.Talls.{Tall, Columns, shapes, outcomes, own_outcome, unless}
-use Rattle.tall_semantics.specs.Deferred.{Vertex, IsAmong, fault_in, least_in}
+use Rattle.tall_semantics.specs.Talls.{Tall, Columns, shapes, outcomes, own_outcome}
+use Rattle.tall_semantics.specs.Deferred.{Vertex, IsAmong, fault_in}
 use Rattle.tall_semantics.proofs.MeaningLaws.{made_value, tall_shape}
 use Rattle.tall_semantics.proofs.OriginLaws.{get_before, below_among, faults_of_values, tall_outcome}
 use Rattle.tall_semantics.proofs.ShapeLaws.{place_ok, shaped_is, column_is, group_spaces}
 use Rattle.tall_blocks.specs.Blocks.{Block}
 use Rattle.tall_blocks.specs.Carries.{Rows}
-use Rattle.tall_blocks.specs.Folds.{Fold, Kept, start, more, used, by_parts, number_of, every_cell, fold_of, omits, reduction_result, method_fold, method_omits, method_result}
+use Rattle.tall_blocks.specs.Folds.{Kept, start, more, used, by_parts, number_of, every_cell, fold_of, omits, reduction_result, method_fold, method_omits}
 use Rattle.tall_blocks.specs.FoldsOfBlocks.{AreAsLong, kept_of_blocks, first_of_blocks, last_of_blocks, distinct_of_blocks, groups_of_blocks}
-use Rattle.tall_blocks.specs.Gathered.{Gathered, gathered_start, gathered_more, gathered_from, gathered_outcome, gathered_all, gathered_columns, group_column, or_one, end_outcome}
-use Rattle.tall_blocks.specs.GroupsOver.{Groups, keys_of, groups_of}
+use Rattle.tall_blocks.specs.Gathered.{Gathered, gathered_more, gathered_from, gathered_all, gathered_columns, group_column, or_one, end_outcome}
+use Rattle.tall_blocks.specs.GroupsOver.{keys_of, groups_of}
 use Rattle.tall_blocks.specs.Pieces.{pass_blocks}
 use Rattle.tall_blocks.specs.SeenFaults.{IsBlockwise}
 use Rattle.tall_blocks.specs.ValuesOver.{rows_of_blocks}
@@ -108,9 +105,9 @@ module _ (columns : Columns) (of_stores : ℕ → List ℕ) (vs : List Vertex) (
       let ds : List Seen = cells_in (f v).outcome in
       let w = group_from m part a ([], []) Hs g v in
       let counts : groups_of (by_parts (number_of every_cell)) false ks ks ≡ (gathered_from (group m part) a ([], []) Hs g v).0 =
-        groups_by_blocks (f g).outcome (f g).outcome Hs g g (rows_ready g rg) (rows_ready g rg) (as_long_itself Hs g) (by_parts (number_of every_cell)) false ∙ sym w.0 in
+      groups_by_blocks (f g).outcome (f g).outcome Hs g g (rows_ready g rg) (rows_ready g rg) (as_long_itself Hs g) (by_parts (number_of every_cell)) false ∙ sym w.0 in
       let values : groups_of (method_fold m a) (method_omits m) ks ds ≡ (gathered_from (group m part) a ([], []) Hs g v).1 =
-        groups_by_blocks (f g).outcome (f v).outcome Hs g v (rows_ready g rg) (rows_ready v rv) long (method_fold m a) (method_omits m) ∙ sym w.1 in
+      groups_by_blocks (f g).outcome (f v).outcome Hs g v (rows_ready g rg) (rows_ready v rv) long (method_fold m a) (method_omits m) ∙ sym w.1 in
       ap (λ r. part_of_group at part (of_groups r))
       (columns_kept m a ks ds
       ∙ (ap (λ es. gathered_columns m a es (groups_of (method_fold m a) (method_omits m) ks ds)) counts ∙ ap (gathered_columns m a (gathered_from (group m part) a ([], []) Hs g v).0) values))

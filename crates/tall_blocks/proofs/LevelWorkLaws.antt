@@ -7,33 +7,31 @@ use Rattle.tall_value.specs.declared.functions.Scan.{Scan}
 use Rattle.tall_semantics.specs.Operations.{scan, Made, stored, operation}
 use Rattle.tall_semantics.specs.Spaces.{Space, single, rows_of, kept, first, last, groups, has_rows, store_of}
 use Rattle.tall_semantics.specs.Spaces as spaces
-use Rattle.tall_semantics.specs.Faults.{Fault, earlier}
+use Rattle.tall_semantics.specs.Faults.{Fault}
 use Rattle.tall_semantics.specs.Shapes.{Shape, level, greatest_level, place_of}
 use Rattle.tall_semantics.specs.Talls.{Tall, Columns, shapes}
-use Rattle.tall_semantics.specs.Deferred.{Vertex, IsMeaning, IsOrdered, IsAmong, AreThere, AreUnder, itself, own_in}
+use Rattle.tall_semantics.specs.Deferred.{Vertex, IsMeaning, IsOrdered, IsAmong, AreThere, itself, own_in}
 use Rattle.tall_semantics.specs.ShapesInOrder.{IsMade, shape_at}
 use Rattle.tall_semantics.specs.Least.{IsLeast, IsBelow}
-use Rattle.tall_semantics.specs.Levels.{IsWork, Nodes}
+use Rattle.tall_semantics.specs.Levels.{IsWork}
 use Rattle.tall_semantics.specs.Numbered.{levels_in, nodes_by, number_at}
 use Rattle.tall_semantics.specs.Passes.{Pass, pass_of, passes_at, passes_up_to}
-use Rattle.tall_semantics.specs.Plans.{above_store, args_of, collected, is_among, is_of_level, is_scan, is_scan_at, is_store, is_work, needed_of, or_else, plan_of, store_at, stores_in, work_of, HasRowsOf}
+use Rattle.tall_semantics.specs.Plans.{above_store, args_of, collected, is_among, is_of_level, is_scan, is_scan_at, is_store, is_work, needed_of, or_else, plan_of, store_at, stores_in, work_of}
 use Rattle.tall_semantics.specs.Ranks.{any_rows, is_in_pass, rank, rank_at, ranks_in}
 use Rattle.tall_semantics.specs.Reach.{IsOfStore}
-use Rattle.tall_semantics.specs.ScanLevels.{AfterScans, AreScans, Scans, scans_by, chains_in, chain_ranks_in}
+use Rattle.tall_semantics.specs.ScanLevels.{AfterScans, scans_by, chains_in, chain_ranks_in}
 use Rattle.tall_semantics.proofs.Basics.{inside, both, either, and_true}
 use Rattle.tall_semantics.proofs.LevelLaws.{compare, joined}
 use Rattle.tall_semantics.proofs.MeaningLaws.{made_value, tall_shape}
 use Rattle.tall_semantics.proofs.OriginLaws.{get_before, below_among}
 use Rattle.tall_semantics.proofs.PlanLaws.{among_filter, needed_under, one_datastore}
-use Rattle.tall_semantics.proofs.ReachLaws.{of_any, any_of, reads_decided, rows_read, operand_read}
-use Rattle.tall_semantics.proofs.ScanLevelLaws.{scans_by_levels, scans_by_ranks}
+use Rattle.tall_semantics.proofs.ReachLaws.{of_any, any_of, reads_decided, rows_read}
 use Rattle.tall_semantics.proofs.ShapeLaws.{place_ok, space_ok, shaped_is, placed_is, column_is, refused}
 use Rattle.tall_semantics.proofs.ShapeLaws as placing
 use Rattle.tall_semantics.proofs.ShapesInOrderLaws.{value_shape}
 use Rattle.tall_semantics.proofs.VariantLaws.{number_is, same_number}
 use Rattle.tall_blocks.specs.LevelWork.{IsBeforePass, AllPasses, AreInOrder, is_no_store, is_rest, rest_of, earliest}
 use Rattle.tall_blocks.specs.PassWork.{IsWorkOf, IsEndOf, IsDueOf}
-use Rattle.tall_blocks.proofs.Choices.{true_or_false}
 
 -- ---- the order of passes
 
@@ -132,9 +130,11 @@ module _ (vs : List Vertex) (ordered : IsOrdered vs) (roots : List ℕ) (there :
         let a = both (is_among i roots) (is_store s (store_of (shape_at vs i).space) && level (shape_at vs i) == k) w.1 in
         let b = both (is_store s (store_of (shape_at vs i).space)) (level (shape_at vs i) == k) a.1 in
         ((among_test i roots).0 a.0, (store_test s (store_of (shape_at vs i).space)).0 b.0, (level_test (level (shape_at vs i)) k).0 b.1),
-    λ h. (among_filter (is_kept s k) (needed_of vs roots) i).1
-      (root_needed i h.0, and_true (is_among i roots) (is_store s (store_of (shape_at vs i).space) && level (shape_at vs i) == k) ((among_test i roots).1 h.0)
-        (and_true (is_store s (store_of (shape_at vs i).space)) (level (shape_at vs i) == k) ((store_test s (store_of (shape_at vs i).space)).1 h.1) ((level_test (level (shape_at vs i)) k).1 h.2))),
+    λ h. (among_filter (is_kept s k) (needed_of vs roots) i).1 (
+      root_needed i h.0,
+      and_true (is_among i roots) (is_store s (store_of (shape_at vs i).space) && level (shape_at vs i) == k) ((among_test i roots).1 h.0)
+          (and_true (is_store s (store_of (shape_at vs i).space)) (level (shape_at vs i) == k) ((store_test s (store_of (shape_at vs i).space)).1 h.1) ((level_test (level (shape_at vs i)) k).1 h.2)),
+    ),
   )
 
   first_of : (o p : Option ℕ) (s : ℕ) → o ≡ Some s → or_else o p ≡ Some s
@@ -144,9 +144,11 @@ module _ (vs : List Vertex) (ordered : IsOrdered vs) (roots : List ℕ) (there :
   pub collected_work : (s k i : ℕ) → IsAmong (collected vs roots s k) i → IsAmong (work_of vs (needed_of vs roots) s k) i
   collected_work s k i h =
       let w = (collected_is s k i).0 h in
-      (among_filter (is_work vs s k) (needed_of vs roots) i).1
-      (root_needed i w.0, and_true (is_store s (store_at vs i)) (is_of_level vs k i) ((store_test s (store_at vs i)).1 (first_of (store_of (shape_at vs i).space) _ s w.1))
-        (or_left (level (shape_at vs i) == k) _ ((level_test (level (shape_at vs i)) k).1 w.2)))
+      (among_filter (is_work vs s k) (needed_of vs roots) i).1 (
+        root_needed i w.0,
+        and_true (is_store s (store_at vs i)) (is_of_level vs k i) ((store_test s (store_at vs i)).1 (first_of (store_of (shape_at vs i).space) _ s w.1))
+            (or_left (level (shape_at vs i) == k) _ ((level_test (level (shape_at vs i)) k).1 w.2)),
+      )
 
 -- ---- rows and datastores
 
@@ -442,9 +444,14 @@ module _ (columns : Columns) (vs : List Vertex) (f : ℕ → Tall) (made : IsMad
         to : IsWork (nodes_by vs f (ranks_in vs f)) (IsAmong needed) (2 * k + 1) c i → IsAmong (rest_of vs needed k) i × IsBelow c (number_at (slice_get vs i))
         to w =
             let u = is_there i w.0 in
-            let r = rank_rest (is_in_pass f u.0 i) (f i).shape k (sym (rank_is i u.0 u.1) ∙ w.1) in
-            ((among_filter (is_rest vs k) needed i).1 (w.0, and_true (is_no_store (store_at vs i)) (level (shape_at vs i) == k)
-              (none_store u.0 u.1 r.0 (some_or_none (store_at vs i))) ((level_test (level (shape_at vs i)) k).1 (ap level (sym (shape_is i u.0 u.1)) ∙ r.1))), w.2)
+            let r = rank_rest (is_in_pass f u.0 i) (f i).shape k (sym (rank_is i u.0 u.1) ∙ w.1) in (
+              (among_filter (is_rest vs k) needed i).1 (
+                w.0,
+                and_true (is_no_store (store_at vs i)) (level (shape_at vs i) == k)
+                    (none_store u.0 u.1 r.0 (some_or_none (store_at vs i))) ((level_test (level (shape_at vs i)) k).1 (ap level (sym (shape_is i u.0 u.1)) ∙ r.1)),
+              ),
+              w.2,
+            )
 
   -- ---- no scan is due before the first level
 

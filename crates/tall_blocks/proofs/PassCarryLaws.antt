@@ -1,16 +1,14 @@
 -- The carries of a pass's scans are those of the datastore's blocks.
-use Rattle.std.specs.Prelude.{◌≡◌, refl, ℕ, ◌+◌, ◌⊎◌, if◌then◌else◌, Bool, true, false, Option, None, Some, Result, Ok, Err, List, [], ◌∷◌, slice_get}
+use Rattle.std.specs.Prelude.{◌≡◌, refl, ℕ, ◌+◌, ◌⊎◌, Bool, true, Option, None, Some, List, [], ◌∷◌, slice_get}
 use Rattle.std.proofs.Common.{ap, sym, subst, ◌∙◌, inl, inr}
 use Rattle.tall_value.specs.declared.functions.Scan.{Scan}
-use Rattle.tall_value.specs.Cells.{Seen}
-use Rattle.tall_semantics.specs.Operations.{Op, constant, unary, binary, filter, reduce, scan, head, tail, distinct, group, Made, stored, operation}
+use Rattle.tall_semantics.specs.Operations.{constant, unary, binary, filter, reduce, scan, head, tail, distinct, group, Made, stored, operation}
 use Rattle.tall_semantics.specs.Spaces.{store_of}
 use Rattle.tall_semantics.specs.Faults.{Fault}
 use Rattle.tall_semantics.specs.Outcomes.{Outcome}
 use Rattle.tall_semantics.specs.Talls.{Tall, Columns}
 use Rattle.tall_semantics.specs.Deferred.{Vertex, IsAmong}
 use Rattle.tall_semantics.specs.Numbered.{IsGather}
-use Rattle.tall_semantics.specs.Plans.{is_scan_at}
 use Rattle.tall_semantics.proofs.OriginLaws.{get_before, below_among}
 use Rattle.tall_blocks.specs.Blocks.{Block}
 use Rattle.tall_blocks.specs.Cut.{IsOfRows}

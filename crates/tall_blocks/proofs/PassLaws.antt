@@ -1,23 +1,19 @@
 -- A pass over the blocks of a datastore: the least fault seen block by block is the least own fault, and a value without a
 -- fault has its rows of each block in order.
-use Rattle.std.specs.Prelude.{◌≡◌, refl, ℕ, Bool, true, Option, None, Some, List, [], ◌∷◌, ◌++◌, length, map, slice_get}
+use Rattle.std.specs.Prelude.{◌≡◌, refl, ℕ, Bool, true, Option, None, Some, List, [], ◌∷◌, ◌++◌, length, slice_get}
 use Rattle.std.proofs.Common.{ap, sym, subst, ◌∙◌, inl}
 use Rattle.std.proofs.lemmas.List.{length-map}
 use Rattle.tall_value.specs.Cells.{Seen}
-use Rattle.tall_value.specs.Classes.{kind_of}
-use Rattle.tall_semantics.specs.Operations.{Op, constant, unary, binary, filter, reduce, scan, head, tail, distinct, group, Made, stored, operation}
 use Rattle.tall_semantics.specs.Spaces.{is_single}
 use Rattle.tall_semantics.specs.Faults.{Fault, least_fault}
 use Rattle.tall_semantics.specs.Outcomes.{Outcome, rows, fault_of, rows_in}
-use Rattle.tall_semantics.specs.Shapes.{Shape, tree_over}
-use Rattle.tall_semantics.specs.Talls.{Tall, Columns, shapes}
-use Rattle.tall_semantics.specs.Deferred.{Vertex, IsAmong, own_in, fault_in}
+use Rattle.tall_semantics.specs.Shapes.{Shape}
+use Rattle.tall_semantics.specs.Talls.{Tall, Columns}
+use Rattle.tall_semantics.specs.Deferred.{Vertex, own_in, fault_in}
 use Rattle.tall_semantics.specs.Least.{IsLeast}
 use Rattle.tall_semantics.specs.RowsOfSpaces.{Fits, numbers_in}
-use Rattle.tall_semantics.proofs.OriginLaws.{get_before, below_among}
-use Rattle.tall_semantics.proofs.MeaningLaws.{stored_value, tree_value}
 use Rattle.tall_semantics.proofs.SpaceLaws.{value_fits}
-use Rattle.tall_semantics.proofs.TreeLaws.{not_column, one_shape, one_value}
+use Rattle.tall_semantics.proofs.TreeLaws.{one_value}
 use Rattle.tall_blocks.specs.Blocks.{Block, block_columns, all_rows, IsTable, AreTables, AreAscending}
 use Rattle.tall_blocks.specs.Cut.{IsScalar, AreCut, AreAligned, IsCutWork}
 use Rattle.tall_blocks.specs.ValuesOver.{value_over, IsOver, AreParts, no_cells, next_cells, outcomes_over, block_outcomes, rows_of_blocks}

@@ -10,7 +10,7 @@ use Rattle.tall_semantics.specs.Faults.{Fault, earlier, precedes}
 use Rattle.tall_semantics.specs.Outcomes.{Outcome, rows, scalar, fault, fault_of}
 use Rattle.tall_semantics.specs.Shapes.{Shape, level}
 use Rattle.tall_semantics.specs.Talls.{Tall, Columns, shapes, made_tall}
-use Rattle.tall_semantics.specs.Deferred.{Vertex, IsMeaning, IsAmong, DependsOn, itself, through, fault_in, least_in, own_in}
+use Rattle.tall_semantics.specs.Deferred.{Vertex, IsMeaning, IsAmong, AreThere, AreUnder, DependsOn, itself, through, fault_in, least_in, own_in}
 use Rattle.tall_semantics.specs.Least.{AtMost, IsLeast, IsBelow}
 use Rattle.tall_semantics.specs.Levels.{UpTo}
 use Rattle.tall_semantics.specs.Numbered.{AreNumbered, AreStored, never_fails, nodes_by, number_at, levels_in, IsGather}
@@ -23,13 +23,14 @@ use Rattle.tall_semantics.proofs.LevelLaws.{compare, split}
 use Rattle.tall_semantics.proofs.MeaningLaws.{tall_ok, made_fault, made_value, tall_shape}
 use Rattle.tall_semantics.proofs.OrderLaws.{at_most_left, at_most_right, by_number, lesser_number, one_of_two}
 use Rattle.tall_semantics.proofs.OriginLaws.{get_before, below_among, none_or_some}
-use Rattle.tall_semantics.specs.Plans.{is_among, is_scan, is_scan_at, is_store}
+use Rattle.tall_semantics.specs.Plans.{is_among, is_scan, is_scan_at, is_store, needed_of}
+use Rattle.tall_semantics.proofs.PlanLaws.{needed_under}
 use Rattle.tall_semantics.proofs.ReachLaws.{any_of, of_any}
 use Rattle.tall_semantics.proofs.ShapeLaws.{IsOneOf, lesser_level}
 use Rattle.tall_semantics.proofs.SpaceLaws.{value_fits}
 use Rattle.tall_semantics.proofs.VariantLaws.{number_is, same_number}
 use Rattle.tall_blocks.specs.Cut.{IsScalar, AreCut, IsCutWork, IsOfRows, AreOfStore}
-use Rattle.tall_blocks.specs.PassWork.{IsCutAt, IsCutFor, IsWorkOf, IsEndOf, AreScalarsLower, is_below, cut_at}
+use Rattle.tall_blocks.specs.PassWork.{AreAsked, IsCutAt, IsCutFor, cut_under, IsWorkOf, IsEndOf, AreScalarsLower, is_below, cut_at}
 use Rattle.tall_blocks.specs.Pieces.{AreScansFree, has_rows_of}
 use Rattle.tall_blocks.specs.ValuesOver.{IsOver, no_cells}
 use Rattle.tall_blocks.proofs.LeastLaws.{no_group, path_number}
@@ -362,3 +363,53 @@ cut_decided store vs f levels needed k c i = (
       (and_true (is_among i needed) _ ((among_test i needed).1 w.1.0)
       (and_true (not (nat_lt k (levels i))) (is_below c (number_at (slice_get vs i))) ((at_most k (levels i)).1 w.1.1) ((below_test c (number_at (slice_get vs i))).1 w.2))),
 )
+
+-- ---- the least that may be cut
+
+module _ (columns : Columns) (of_stores : ℕ → List ℕ) (vs : List Vertex) (f : ℕ → Tall) (levels carried : ℕ → ℕ) (roots needed : List ℕ) (gather : IsGather columns vs f levels roots needed)
+    (store k : ℕ) (c : Option Fault) where
+  abbrev IsWithin : ℕ → Type 0
+  IsWithin i = UpTo (nodes_by vs f levels) (IsAmong needed) (k + 1) i × IsBelow c (number_at (slice_get vs i))
+
+  path_within : (i j : ℕ) → DependsOn vs i j → IsWithin i → IsWithin j
+  path_within i j (itself a) w = w
+  path_within i j (through a b l v e among d) w =
+      let g = no_greater columns of_stores vs f levels carried roots needed gather store k c a b v e among w.1 in
+      let h : levels a ≤ k + 1 = w.0.1 in
+      let m : levels b ≤ levels a = g.0 in
+      path_within b l d ((needed_operand columns of_stores vs f levels carried roots needed gather store k c a b v e w.0.0 among, omega (arith, h, m)), g.1)
+
+  pub least_serves : (asked : List ℕ) → AreAsked store vs f levels carried needed (k + 1) c asked → IsCutFor store vs f levels carried needed (k + 1) c (cut_under store vs f asked)
+  least_serves asked are = record {
+    within = λ i h.
+        let w = both (is_store store (store_of (f i).shape.space)) (is_among i (needed_of vs asked)) h in
+        let r = (under i).0 ((among_test i (needed_of vs asked)).0 w.1) in
+        let p = path_within r.0 i r.2 (are.within r.0 r.1) in
+        ((store_test store (store_of (f i).shape.space)).0 w.0, p.0, p.1);
+    work = λ i w. cut_of i w.1 (itself_under i (are.work i w));
+    ends = λ i a v w e among here. cut_of a here (itself_under a (are.ends i a v w e among here));
+    scans = λ i a v w e among here. cut_of a here (itself_under a (are.scans i a v w e among here));
+    closed = λ i a v e h among here.
+        let w = both (is_store store (store_of (f i).shape.space)) (is_among i (needed_of vs asked)) h in
+        let r = (under i).0 ((among_test i (needed_of vs asked)).0 w.1) in
+        cut_of a here ((under a).1 (r.0, r.1, further vs r.0 i a r.2 (through i a a v e among (itself a))));
+  }
+    where
+      there_from : (r i : ℕ) (v : Vertex) → slice_get vs r ≡ Some v → DependsOn vs r i → (w : Vertex) × (slice_get vs i ≡ Some w)
+      there_from r i v e (itself j) = (v, e)
+      there_from r i v e (through j a l w g among d) = (let b = get_before vs j a w g (below_among j w.args a (gather.ordered j w g) among) in there_from a l b.0 b.1 d)
+
+      all_there : AreThere vs asked
+      all_there i h =
+          let r = (gather.under i).0 (are.within i h).0.0 in
+          let u = gather.there r.0 r.1 in
+          there_from r.0 i u.0 u.1 r.2
+
+      under : AreUnder vs asked (needed_of vs asked)
+      under = needed_under vs asked gather.ordered all_there
+
+      itself_under : (i : ℕ) → IsAmong asked i → IsAmong (needed_of vs asked) i
+      itself_under i h = (under i).1 (i, h, itself i)
+
+      cut_of : (i : ℕ) → store_of (f i).shape.space ≡ Some store → IsAmong (needed_of vs asked) i → cut_under store vs f asked i ≡ true
+      cut_of i here n = and_true (is_store store (store_of (f i).shape.space)) (is_among i (needed_of vs asked)) ((store_test store (store_of (f i).shape.space)).1 here) ((among_test i (needed_of vs asked)).1 n)

@@ -1,6 +1,6 @@
 -- Carries in a pass: where one is missing the scan's fault was found in an earlier block, so that the scan, and what isn't
 -- numbered below it, may be left out; and what a value is over a block is the same in each pass that computes it.
-use Rattle.std.specs.Prelude.{◌≡◌, refl, ℕ, zero, suc, ◌<◌, ◌≤◌, not, nat_lt, ◌&&◌, ◌||◌, Bool, true, false, Option, None, Some, Result, Ok, Err, List, [], ◌∷◌, ◌++◌, length, map, take, slice_get}
+use Rattle.std.specs.Prelude.{◌≡◌, refl, ℕ, zero, suc, ◌<◌, ◌≤◌, not, nat_lt, ◌&&◌, ◌||◌, Bool, true, false, Option, None, Some, List, [], ◌∷◌, ◌++◌, length, map, take, slice_get}
 use Rattle.std.proofs.Common.{ap, sym, subst, ◌∙◌, arith, inl, inr}
 use Rattle.std.proofs.lemmas.Bool.Decides.{nat_tests}
 use Rattle.std.proofs.lemmas.List.{append_assoc, append-nil, length-map}
@@ -8,19 +8,16 @@ use Rattle.tall_value.specs.Cells.{Seen}
 use Rattle.tall_value.specs.Classes.{kind_of}
 use Rattle.tall_value.specs.Columns.{cells}
 use Rattle.tall_value.specs.Reductions.{data_fault}
-use Rattle.tall_value.specs.declared.faults.CellFault.{CellFault}
 use Rattle.tall_value.specs.declared.functions.Scan.{Scan}
-use Rattle.tall_semantics.specs.Operations.{Op, constant, unary, binary, filter, reduce, scan, head, tail, distinct, group, Made, stored, operation}
-use Rattle.tall_semantics.specs.Spaces.{store_of}
-use Rattle.tall_semantics.specs.Faults.{At, Fault, fault_at}
+use Rattle.tall_semantics.specs.Operations.{constant, unary, binary, filter, reduce, scan, head, tail, distinct, group, Made, stored, operation}
+use Rattle.tall_semantics.specs.Faults.{Fault, fault_at}
 use Rattle.tall_semantics.specs.Outcomes.{Outcome, rows, fault, fault_of, rows_in, cells_in, row_by_row}
 use Rattle.tall_semantics.specs.Talls.{Tall, Columns}
 use Rattle.tall_semantics.specs.Deferred.{Vertex, IsOrdered, IsAmong, own_in, fault_in, least_in}
-use Rattle.tall_semantics.specs.Least.{AtMost, IsLeast, IsBelow}
+use Rattle.tall_semantics.specs.Least.{AtMost, IsBelow}
 use Rattle.tall_semantics.specs.Numbered.{AreNumbered, number_at}
-use Rattle.tall_semantics.specs.Plans.{is_store, is_scan, is_scan_at}
+use Rattle.tall_semantics.specs.Plans.{is_scan, is_scan_at}
 use Rattle.tall_semantics.proofs.Basics.{inside, both}
-use Rattle.tall_semantics.proofs.InOrderLaws.{same_values}
 use Rattle.tall_semantics.proofs.OrderLaws.{by_number}
 use Rattle.tall_semantics.proofs.OriginLaws.{AtMost_some, get_before, below_among}
 use Rattle.tall_semantics.proofs.PlanLaws.{among_filter}
@@ -30,13 +27,13 @@ use Rattle.tall_blocks.specs.Cut.{CanBeCut, AreCut, IsCutWork, IsOfRows}
 use Rattle.tall_blocks.specs.Pieces.{pass_blocks, fault_from, IsLookedAt, cells_by_block, carry_of, carry_at, carry_in, is_missing, lacks_carry, is_below_missing, looked_at, AreScansFree}
 use Rattle.tall_blocks.specs.SeenFaults.{IsBlockwise}
 use Rattle.tall_blocks.specs.ValuesOver.{value_over, own_over, outcome_over, IsOver, AreParts, no_cells, more_cells, more_cells_at, next_cells, outcomes_over, block_outcomes, rows_of_blocks}
-use Rattle.tall_blocks.proofs.Choices.{true_or_false, if_true}
+use Rattle.tall_blocks.proofs.Choices.{true_or_false}
 use Rattle.tall_blocks.proofs.BlockLaws.{over_exists, empty_rows, split_at}
 use Rattle.tall_blocks.proofs.CarryPlaceLaws.{scan_failed, carry_there, from_carry}
 use Rattle.tall_blocks.proofs.CutLaws.{are_cut}
 use Rattle.tall_blocks.proofs.PassLaws.{OneCarry, start_one, next_one, aligned_over, whole, rows_over}
 use Rattle.tall_blocks.proofs.PieceLaws.{found_first, first_tables, first_outcomes}
-use Rattle.tall_blocks.proofs.SeenLaws.{own_of, own_made, none_args, all_none, value_parts}
+use Rattle.tall_blocks.proofs.SeenLaws.{own_of, own_made, all_none, value_parts}
 
 -- ---- lists
 
@@ -95,14 +92,14 @@ module _ (columns : Columns) (of_stores : ℕ → List ℕ) (vs : List Vertex) (
         let all = whole columns of_stores vs f store cut bs pass in
         let free : fault_of (h a) ≡ None = first_none bs n no_cells pass.tables (start_one columns of_stores vs f store cut bs pass) (λ j. (f j).outcome) h all over a b.0 b.1 ca none in
         let has : h a ≡ rows (flat (take n blocks)) =
-          rows_over columns of_stores vs f store cut bs pass (take n bs) no_cells (first_tables vs cut bs n pass.tables) (start_one columns of_stores vs f store cut bs pass) h over a b.0 b.1 ca free
-          ∙ (ap (λ hs. rows (rows_of_blocks hs a)) (first_outcomes vs f cut bs no_cells n) ∙ ap rows (rows_flat Hs a n)) in
+        rows_over columns of_stores vs f store cut bs pass (take n bs) no_cells (first_tables vs cut bs n pass.tables) (start_one columns of_stores vs f store cut bs pass) h over a b.0 b.1 ca free
+        ∙ (ap (λ hs. rows (rows_of_blocks hs a)) (first_outcomes vs f cut bs no_cells n) ∙ ap rows (rows_flat Hs a n)) in
         let w = scan_failed s kind blocks n (let k = length-map Hs (λ (g : ℕ → Outcome). rows_in (g a)) in omega (arith, l, k)) (ap (λ xs. carry_for s kind xs n) (cells_each Hs a) ∙ missing) in
         let no_args : least_in (value_over f h) v.args ≡ None = ap (least_in (value_over f h)) r ∙ all_none (fault_in (value_over f h)) (a ∷ []) (λ d m. elim m [ inl t ↦ ap (fault_in (value_over f h)) (sym t) ∙ free | inr z ↦ absurd z ]) in
         let is : h i ≡ fault (fault_at v.at (Some w.0.0) (data_fault w.0.1)) =
-          own_of over Can i v (scan s) e c q no_args
-          ∙ (ap (λ xs. own_over [] v.at (scan s) (map (value_over f h) xs)) r
-          ∙ (ap (λ o. row_by_row v.at (scanned_behind s kind [] (rows_in o))) has ∙ ap (row_by_row v.at) w.1)) in
+        own_of over Can i v (scan s) e c q no_args
+        ∙ (ap (λ xs. own_over [] v.at (scan s) (map (value_over f h) xs)) r
+        ∙ (ap (λ o. row_by_row v.at (scanned_behind s kind [] (rows_in o))) has ∙ ap (row_by_row v.at) w.1)) in
         (fault_at v.at (Some w.0.0) (data_fault w.0.1), own_made (value_over f h) (slice_get vs i) v i (fault_at v.at (Some w.0.0) (data_fault w.0.1)) e no_args (ap fault_of is), refl)
 
     pub found_before_it : (n i a : ℕ) (v : Vertex) (s : Scan) → IsAmong work i → slice_get vs i ≡ Some v → v.made ≡ operation (scan s) → v.args ≡ a ∷ [] → fault_in f a ≡ None → n < length Hs
@@ -156,7 +153,7 @@ module _ (columns : Columns) (of_stores : ℕ → List ℕ) (vs : List Vertex) (
         let a = one_arg w.1 w.0.args (subst (λ m. CanBeCut f cut m w.0.args) w.3 (Can j w.0 w.2 c)) in
         let none : carry_in vs f Hs j n ≡ None = missing_is (carry_in vs f Hs j n) t.1 in
         let same : carry_in vs f Hs j n ≡ carry_for w.1 (kind_of (f a.0).shape.class) (cells_by_block Hs a.0) n =
-          ap (λ o. carry_at f Hs o n) w.2 ∙ (ap (λ m. carry_of f Hs m w.0.args n) w.3 ∙ ap (λ xs. carry_of f Hs (operation (scan w.1)) xs n) a.1) in
+        ap (λ o. carry_at f Hs o n) w.2 ∙ (ap (λ m. carry_of f Hs m w.0.args n) w.3 ∙ ap (λ xs. carry_of f Hs (operation (scan w.1)) xs n) a.1) in
         let z = found_before_it n j a.0 w.0 w.1 p w.2 w.3 a.1 (free j a.0 w.0 w.1 p w.2 w.3 a.1) l (sym same ∙ none) in
         let b : i < z.0.number = subst (λ d. IsBelow d i) z.1 below in
         let g : number_at (slice_get vs j) ≡ w.0.at.number = number_of_vertex (slice_get vs j) w.0 w.2 in
@@ -166,7 +163,7 @@ module _ (columns : Columns) (of_stores : ℕ → List ℕ) (vs : List Vertex) (
     looked_by_carries free n l = record {
       of_work = λ i m. ((among_filter (λ j. is_below_missing vs (λ k. carry_in vs f Hs k n) work (number_at (slice_get vs j))) work i).0 m).0;
       below = λ i p below. (among_filter (λ j. is_below_missing vs (λ k. carry_in vs f Hs k n) work (number_at (slice_get vs j))) work i).1
-        (p, below_all (λ k. carry_in vs f Hs k n) work (number_at (slice_get vs i)) (λ j m lacks. lacking free n l (number_at (slice_get vs i)) j m lacks below));
+          (p, below_all (λ k. carry_in vs f Hs k n) work (number_at (slice_get vs i)) (λ j m lacks. lacking free n l (number_at (slice_get vs i)) j m lacks below));
     }
 
 -- ---- what is looked at
@@ -235,16 +232,25 @@ module _ (columns : Columns) (of_stores : ℕ → List ℕ) (vs : List Vertex) (
       × ((i a : ℕ) (v : Vertex) (s : Scan) → slice_get vs i ≡ Some v → v.made ≡ operation (scan s) → v.args ≡ a ∷ [] → before i ≡ so_far i ++ flat (take n (cells_by_block (block_outcomes vs f cut so_far rest) a)))
   before_block [] so_far zero h e = absurd (cc)
   before_block [] so_far (suc n) h e = absurd (cc)
-  before_block (b ∷ rest) so_far zero h e =
-      (b, so_far, refl, subst (λ k. IsOver (block_columns b) so_far vs f cut k) (inside (outcomes_over (block_columns b) so_far vs f cut) h e) (over_exists (block_columns b) so_far vs f cut pass.ordered),
-      (λ i a v s g q r. sym (append-nil (so_far i))))
+  before_block (b ∷ rest) so_far zero h e = (
+    b,
+    so_far,
+    refl,
+    subst (λ k. IsOver (block_columns b) so_far vs f cut k) (inside (outcomes_over (block_columns b) so_far vs f cut) h e) (over_exists (block_columns b) so_far vs f cut pass.ordered),
+    (λ i a v s g q r. sym (append-nil (so_far i))),
+  )
   before_block (b ∷ rest) so_far (suc n) h e =
       let k : ℕ → Outcome = outcomes_over (block_columns b) so_far vs f cut in
-      let w = before_block rest (next_cells vs k so_far) n h e in
-      (w.0, w.1, w.2, w.3, (λ i a v s g q r.
-        w.4 i a v s g q r
-        ∙ (ap (λ cs. cs ++ flat (take n (cells_by_block (block_outcomes vs f cut (next_cells vs k so_far) rest) a))) (ap (λ o. more_cells_at k o (so_far i)) g ∙ (ap (λ m. more_cells k m v.args (so_far i)) q ∙ ap (λ args. more_cells k (operation (scan s)) args (so_far i)) r))
-        ∙ append_assoc (so_far i) (cells_in (k a)) (flat (take n (cells_by_block (block_outcomes vs f cut (next_cells vs k so_far) rest) a))))))
+      let w = before_block rest (next_cells vs k so_far) n h e in (
+        w.0,
+        w.1,
+        w.2,
+        w.3,
+        (λ i a v s g q r.
+            w.4 i a v s g q r
+            ∙ (ap (λ cs. cs ++ flat (take n (cells_by_block (block_outcomes vs f cut (next_cells vs k so_far) rest) a))) (ap (λ o. more_cells_at k o (so_far i)) g ∙ (ap (λ m. more_cells k m v.args (so_far i)) q ∙ ap (λ args. more_cells k (operation (scan s)) args (so_far i)) r))
+            ∙ append_assoc (so_far i) (cells_in (k a)) (flat (take n (cells_by_block (block_outcomes vs f cut (next_cells vs k so_far) rest) a))))),
+      )
 
   pub block_over : (n : ℕ) (h : ℕ → Outcome) → slice_get (pass_blocks vs f cut bs) n ≡ Some h → (b : Block) × (before : ℕ → List Seen) × (slice_get bs n ≡ Some b) × IsOver (block_columns b) before vs f cut h
       × ((i a : ℕ) (v : Vertex) (s : Scan) → slice_get vs i ≡ Some v → v.made ≡ operation (scan s) → v.args ≡ a ∷ [] → before i ≡ flat (take n (cells_by_block (pass_blocks vs f cut bs) a)))

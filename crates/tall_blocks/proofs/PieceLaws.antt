@@ -1,22 +1,21 @@
 -- The least fault so far goes from block to block, and is the least own fault over the rows so far. What a block's work
 -- leaves out changes nothing where it isn't numbered below that fault; and where a scan's carry is missing, the scan is
 -- not.
-use Rattle.std.specs.Prelude.{◌≡◌, refl, ◌≢◌, ℕ, zero, suc, ◌<◌, ◌≤◌, ◌+◌, ◌⊎◌, not, nat_lt, ◌&&◌, ◌||◌, if◌then◌else◌, Bool, true, false, Option, None, Some, Result, Ok, Err, List, [], ◌∷◌, ◌++◌, length, map, take, drop, slice_get}
+use Rattle.std.specs.Prelude.{◌≡◌, refl, ◌≢◌, ℕ, zero, suc, ◌<◌, ◌≤◌, ◌⊎◌, if◌then◌else◌, Bool, true, false, Option, None, Some, List, [], ◌∷◌, ◌++◌, map, take, drop, slice_get}
 use Rattle.std.proofs.Common.{ap, sym, subst, ◌∙◌, arith, inl, inr}
-use Rattle.std.proofs.lemmas.Bool.Decides.{nat_tests}
 use Rattle.tall_value.specs.Cells.{Seen}
 use Rattle.tall_semantics.specs.Operations.{Made, stored, operation}
 use Rattle.tall_semantics.specs.Faults.{Fault, precedes, earlier, least_fault}
-use Rattle.tall_semantics.specs.Outcomes.{Outcome, rows, fault_of}
+use Rattle.tall_semantics.specs.Outcomes.{Outcome, fault_of}
 use Rattle.tall_semantics.specs.Talls.{Tall, Columns}
-use Rattle.tall_semantics.specs.Deferred.{Vertex, IsAmong, own_in, fault_in}
+use Rattle.tall_semantics.specs.Deferred.{Vertex, IsAmong, own_in}
 use Rattle.tall_semantics.specs.Least.{AtMost, IsLeast, IsBelow}
-use Rattle.tall_semantics.specs.Numbered.{AreStored, OfOneMethod, never_fails, number_at}
+use Rattle.tall_semantics.specs.Numbered.{AreStored, never_fails, number_at}
 use Rattle.tall_semantics.proofs.Basics.{inside}
 use Rattle.tall_semantics.proofs.LevelLaws.{compare}
-use Rattle.tall_semantics.proofs.OrderLaws.{at_most_itself, never_both, not_before, by_number, lesser_number, same_place}
+use Rattle.tall_semantics.proofs.OrderLaws.{at_most_itself, never_both, not_before, by_number, lesser_number}
 use Rattle.tall_semantics.proofs.OriginLaws.{least_one, least_all, none_or_some, AtMost_some}
-use Rattle.tall_blocks.specs.Blocks.{Block, block_columns, all_rows, AreTables, AllNumbers, RowsBelow, RowsFrom, AreAscending, IsVariable}
+use Rattle.tall_blocks.specs.Blocks.{Block, block_columns, all_rows, AreTables, AllNumbers, RowsBelow, RowsFrom, AreAscending}
 use Rattle.tall_blocks.specs.Cut.{AreCut, IsCutWork}
 use Rattle.tall_blocks.specs.Pieces.{pass_blocks, seen_in, fault_from, IsLookedAt}
 use Rattle.tall_blocks.specs.SeenFaults.{AreSeen, IsBlockwise}
@@ -25,7 +24,7 @@ use Rattle.tall_blocks.proofs.BlockLaws.{over_exists}
 use Rattle.tall_blocks.proofs.CutLaws.{are_cut}
 use Rattle.tall_blocks.proofs.FaultRowLaws.{fault_holds, later_row}
 use Rattle.tall_blocks.proofs.FoldLaws.{better_assoc}
-use Rattle.tall_blocks.proofs.LeastLaws.{no_args, no_group}
+use Rattle.tall_blocks.proofs.LeastLaws.{no_group}
 use Rattle.tall_blocks.proofs.PassLaws.{start_one, least_seen, least_of_blocks}
 use Rattle.tall_blocks.proofs.SeenLaws.{own_split, own_fault_number, can_fail}
 
@@ -138,12 +137,13 @@ parting (b ∷ bs) (suc n) h =
     let w = parting bs n h.1 in
     let g = greater_of h.0.0 w.0 in
     let p : h.0.0 ≤ g.0 = g.1 in
-    let q : w.0 ≤ g.0 = g.2 in
-    (g.0,
+    let q : w.0 ≤ g.0 = g.2 in (
+      g.0,
       (λ s v. all_joined (λ r. r < g.0) (b s v) (all_rows (take n bs) s v)
-        (all_weaker (λ r. r < h.0.0) (λ r. r < g.0) (λ r l. omega (arith, l, p)) (b s v) (h.0.1 s v))
-        (all_weaker (λ r. r < w.0) (λ r. r < g.0) (λ r l. omega (arith, l, q)) (all_rows (take n bs) s v) (w.1 s v))),
-      (λ s v. all_two (λ r. h.0.0 ≤ r) (λ r. w.0 ≤ r) (λ r. g.0 ≤ r) g.3 (all_rows (drop n bs) s v) (drop_from h.0.0 bs n h.0.2 s v) (w.2 s v)))
+          (all_weaker (λ r. r < h.0.0) (λ r. r < g.0) (λ r l. omega (arith, l, p)) (b s v) (h.0.1 s v))
+          (all_weaker (λ r. r < w.0) (λ r. r < g.0) (λ r l. omega (arith, l, q)) (all_rows (take n bs) s v) (w.1 s v))),
+      (λ s v. all_two (λ r. h.0.0 ≤ r) (λ r. w.0 ≤ r) (λ r. g.0 ≤ r) g.3 (all_rows (drop n bs) s v) (drop_from h.0.0 bs n h.0.2 s v) (w.2 s v)),
+    )
 
 pub first_outcomes : (vs : List Vertex) (f : ℕ → Tall) (cut : ℕ → Bool) (bs : List Block) (so_far : ℕ → List Seen) (n : ℕ) → block_outcomes vs f cut so_far (take n bs) ≡ take n (block_outcomes vs f cut so_far bs)
 first_outcomes vs f cut bs so_far zero = refl

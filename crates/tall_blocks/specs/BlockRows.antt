@@ -9,9 +9,10 @@ use Rattle.tall_semantics.specs.Talls.{tall}
 use Rattle.tall_semantics.specs.Deferred.{own_in}
 use Rattle.tall_semantics.specs.InOrder.{talls_from}
 use Rattle.tall_semantics.specs.Numbered.{levels_in}
+use Rattle.tall_semantics.specs.Plans.{needed_below}
 use Rattle.tall_semantics.specs.Samples.{at, doubles, number}
 use Rattle.tall_blocks.specs.Blocks.{all_rows}
-use Rattle.tall_blocks.specs.PassWork.{cut_at}
+use Rattle.tall_blocks.specs.PassWork.{cut_at, cut_under}
 use Rattle.tall_blocks.specs.ValuesOver.{no_cells, value_over, block_outcomes, rows_of_blocks}
 use Rattle.tall_blocks.specs.BlockSamples.{vertices, blocks, value, cut, over_first, behind_first, over_second}
 
@@ -86,3 +87,8 @@ second_pass_below_a_candidate = refl
 pass_of_another : map (cut_at 1 vertices value (levels_in value) places 2 None) places ≡ false ∷ false ∷ false ∷ false ∷ false ∷ []
 unfolding tall talls_from
 pass_of_another = refl
+
+-- what y alone needs
+under_one : map (cut_under 0 vertices value (3 ∷ [])) places ≡ true ∷ true ∷ false ∷ true ∷ false ∷ []
+unfolding tall talls_from needed_below
+under_one = refl

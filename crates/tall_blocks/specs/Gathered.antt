@@ -1,6 +1,6 @@
 -- What a pass keeps of the blocks so far for a value that needs all rows of its operands: a reduction, the first or last rows,
 -- distinct cells, a column of `groupsummary`; and the value's outcome at the end. A block's rows are looked at once.
-use Rattle.std.specs.Prelude.{ℕ, pos, false, Option, Some, Result, Ok, Err, List, [], ◌∷◌, ◌++◌, map}
+use Rattle.std.specs.Prelude.{ℕ, pos, false, Some, Result, Ok, Err, List, [], ◌∷◌, ◌++◌, map}
 use Rattle.tall_value.specs.declared.class.Kind.{Kind}
 use Rattle.tall_value.specs.declared.faults.FaultKind.{FaultKind}
 use Rattle.tall_value.specs.declared.functions.Method.{Method}

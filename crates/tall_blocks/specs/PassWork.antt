@@ -10,7 +10,7 @@ use Rattle.tall_semantics.specs.Deferred.{Vertex, IsAmong}
 use Rattle.tall_semantics.specs.Least.{IsBelow}
 use Rattle.tall_semantics.specs.Levels.{UpTo, IsWork}
 use Rattle.tall_semantics.specs.Numbered.{nodes_by, number_at}
-use Rattle.tall_semantics.specs.Plans.{is_among, is_store, is_scan_at}
+use Rattle.tall_semantics.specs.Plans.{is_among, is_store, is_scan_at, needed_of}
 
 -- ---- the work of level k below the candidate c
 
@@ -39,6 +39,18 @@ pub record IsCutFor (store : ℕ) (vs : List Vertex) (f : ℕ → Tall) (levels 
   pub ends : (i a : ℕ) (v : Vertex) → IsEndOf store vs f levels needed k c i → slice_get vs i ≡ Some v → IsAmong v.args a → store_of (f a).shape.space ≡ Some store → cut a ≡ true
   pub scans : (i a : ℕ) (v : Vertex) → IsDueOf store vs f carried needed k c i → slice_get vs i ≡ Some v → IsAmong v.args a → store_of (f a).shape.space ≡ Some store → cut a ≡ true
   pub closed : (i a : ℕ) (v : Vertex) → slice_get vs i ≡ Some v → cut i ≡ true → IsAmong v.args a → store_of (f a).shape.space ≡ Some store → cut a ≡ true
+
+-- what a pass asks for: places within the needed values up to the level and below the candidate, with the work with rows of
+-- the datastore, and the operands with rows of all other work and of the scans that are due
+pub record AreAsked (store : ℕ) (vs : List Vertex) (f : ℕ → Tall) (levels carried : ℕ → ℕ) (needed : List ℕ) (k : ℕ) (c : Option Fault) (asked : List ℕ) : Type 0 where
+  pub within : (i : ℕ) → IsAmong asked i → UpTo (nodes_by vs f levels) (IsAmong needed) k i × IsBelow c (number_at (slice_get vs i))
+  pub work : (i : ℕ) → IsWorkOf store vs f levels needed k c i → IsAmong asked i
+  pub ends : (i a : ℕ) (v : Vertex) → IsEndOf store vs f levels needed k c i → slice_get vs i ≡ Some v → IsAmong v.args a → store_of (f a).shape.space ≡ Some store → IsAmong asked a
+  pub scans : (i a : ℕ) (v : Vertex) → IsDueOf store vs f carried needed k c i → slice_get vs i ≡ Some v → IsAmong v.args a → store_of (f a).shape.space ≡ Some store → IsAmong asked a
+
+-- with all that this is made of and that has the datastore's rows: the least that may be cut
+abbrev pub cut_under : (store : ℕ) → List Vertex → (ℕ → Tall) → (asked : List ℕ) → ℕ → Bool
+cut_under store vs f asked i = is_store store (store_of (f i).shape.space) && is_among i (needed_of vs asked)
 
 -- all that may be cut
 abbrev pub IsCutAt : (store : ℕ) → List Vertex → (ℕ → Tall) → (levels : ℕ → ℕ) → (needed : List ℕ) → (k : ℕ) → (c : Option Fault) → (ℕ → Bool) → Type 0

@@ -1,15 +1,13 @@
 -- Worked values of a pass block by block: faults and carries from block to block, what is left out, and what is kept for values
 -- that need all rows.
-use Rattle.std.specs.Prelude.{◌≡◌, refl, ℕ, ◌+◌, pos, true, false, Option, None, Some, List, [], ◌∷◌, map, take}
-use Rattle.tall_value.specs.declared.class.Class.TheVariants as class
+use Rattle.std.specs.Prelude.{◌≡◌, refl, ℕ, ◌+◌, pos, true, false, None, Some, List, [], ◌∷◌, map, take}
 use Rattle.tall_value.specs.declared.faults.FaultKind.TheVariants.{Inexact, NanLogical}
 use Rattle.tall_value.specs.declared.functions.Method.TheVariants as method
 use Rattle.tall_value.specs.declared.functions.Reduction.TheVariants.{Sum, Min, Numel}
-use Rattle.tall_value.specs.Cells.{Seen}
 use Rattle.tall_value.specs.Columns.{numbered}
 use Rattle.tall_semantics.specs.Operations.{reduce, head, tail, distinct, group, keys, counts, values}
 use Rattle.tall_semantics.specs.Faults.{fault_at}
-use Rattle.tall_semantics.specs.Outcomes.{Outcome, rows, scalar, fault}
+use Rattle.tall_semantics.specs.Outcomes.{Outcome, rows, scalar}
 use Rattle.tall_semantics.specs.InOrder.{talls_from}
 use Rattle.tall_semantics.specs.Talls.{tall}
 use Rattle.tall_semantics.specs.Samples.{at, doubles, number, nan}
@@ -19,7 +17,7 @@ use Rattle.tall_semantics.specs.ShapesInOrder.{shapes_from}
 use Rattle.tall_blocks.specs.BlockSamples.{vertices, blocks, value, cut}
 use Rattle.tall_blocks.specs.Gathered.{end_outcome}
 use Rattle.tall_blocks.specs.LevelWork.{rest_of, earliest}
-use Rattle.tall_blocks.specs.Pieces.{pass_blocks, store_blocks, fault_from, carry_in, looked_at, cells_by_block}
+use Rattle.tall_blocks.specs.Pieces.{pass_blocks, store_blocks, fault_from, carry_in, looked_at}
 
 abbrev hs : List (ℕ → Outcome)
 hs = pass_blocks vertices value cut blocks

@@ -1,6 +1,6 @@
 -- A pass block by block: the least fault so far, the carries of scans, and what a block's work may leave out. All is said of
 -- the outcomes over each block, and goes from a block to the next by a function of what there was before and of the block.
-use Rattle.std.specs.Prelude.{◌≡◌, ℕ, Bool, true, false, not, ◌&&◌, ◌||◌, nat_lt, Option, None, Some, List, [], ◌∷◌, map, slice_get, get_or}
+use Rattle.std.specs.Prelude.{◌≡◌, ℕ, Bool, true, false, not, ◌&&◌, ◌||◌, nat_lt, Option, None, Some, List, [], ◌∷◌, map, slice_get}
 use Rattle.std.specs.List.{filter}
 use Rattle.tall_value.specs.declared.functions.Scan.{Scan}
 use Rattle.tall_value.specs.Cells.{Seen}

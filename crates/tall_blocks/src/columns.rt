@@ -40,8 +40,9 @@ pub fn functions_of_columns_go_on_block_by_block()
         → (g : Fold) (passes_nan : Bool) → groups_of g passes_nan (cells_in (f i).outcome) (cells_in (f j).outcome) ≡ groups_of_blocks g passes_nan [] (block_outcomes vs f cut no_cells bs) i j }
 {}
 
-/// A value that needs all rows of its operands comes to what is kept of their rows, block by block: a reduction, the first or
-/// the last rows, distinct cells, a column of `groupsummary`, each with its fault. A further block is joined to what is kept.
+/// A value that needs all rows of its operands comes to what is kept of their rows, block by block: a reduction, the first
+/// or the last rows, distinct cells, a column of `groupsummary`, each with its fault. A further block is joined to what is
+/// kept.
 pub fn values_that_need_all_rows_go_on_block_by_block()
     ensures value { (columns : Columns) (of_stores : ℕ → List ℕ) (vs : List Vertex) (f : ℕ → Tall) (store : ℕ) (cut : ℕ → Bool) (bs : List Block) → IsBlockwise columns of_stores vs f store cut bs
         → (i : ℕ) (v : Vertex) (op : Op) → slice_get vs i ≡ Some v → v.made ≡ operation op → needs_all_rows v.made ≡ true → is_scan v.made ≡ false

@@ -27,8 +27,8 @@ ghost use Rattle.tall_blocks.specs.SeenFaults.{AreSeen, IsBlockwise};
 ghost use Rattle.tall_blocks.specs.ValuesOver.{AreParts, IsOver, block_outcomes, next_cells, outcomes_over, rows_of_blocks, no_cells};
 
 /// Behind no cells a scan is that of the definition; behind some rows it goes on behind their cells too. The fold of the
-/// cells before, where it is there, stands for all of them as one cell, of the scan's class: a block is scanned from its carry. Where there is no
-/// fold the scan has failed before.
+/// cells before, where it is there, stands for all of them as one cell, of the scan's class: a block is scanned from its
+/// carry. Where there is no fold the scan has failed before.
 pub fn scans_go_on_from_a_carry()
     ensures start { (s : Scan) (a : Kind) (rs : Rows) → AllCells (HasScanKind a) (cells rs) → scanned_behind s a [] rs ≡ scanned s a rs }
     ensures goes_on { (s : Scan) (a : Kind) (before : List Seen) (rs ss : Rows) → scanned_behind s a before (rs ++ ss) ≡ rows_joined (scanned_behind s a before rs) (scanned_behind s a (before ++ cells rs) ss) }
@@ -38,8 +38,8 @@ pub fn scans_go_on_from_a_carry()
     ensures failed { (s : Scan) (a : Kind) (rs : Rows) → fold_of s a (cells rs) ≡ None → (e : ℕ × CellFault) × (scanned_behind s a [] rs ≡ Err e) }
 {}
 
-/// The carry of a block, where it is there, is the fold of the cells of all blocks before; where it isn't, the fold is out of
-/// range before this block or an earlier one, and the scan over the blocks before has failed.
+/// The carry of a block, where it is there, is the fold of the cells of all blocks before; where it isn't, the fold is out
+/// of range before this block or an earlier one, and the scan over the blocks before has failed.
 pub fn a_carry_is_the_fold_before_the_block()
     ensures there { (s : Scan) (a : Kind) (blocks : List (List Seen)) (n : ℕ) (c : Seen) → carry_for s a blocks n ≡ Some c → fold_of s a (flat (take n blocks)) ≡ Some c }
     ensures missing { (s : Scan) (a : Kind) (blocks : List (List Seen)) (n : ℕ) → n < length blocks → carry_for s a blocks n ≡ None → (m : ℕ) × (m ≤ n) × (fold_of s a (flat (take m blocks)) ≡ None) }

@@ -13,28 +13,31 @@ ghost use Rattle.tall_semantics.specs.RowsOfSpaces.{AreColumns};
 ghost use Rattle.tall_semantics.specs.ScanLevels.{AreScans, scans_by};
 ghost use Rattle.tall_blocks.specs.Blocks.{AreAscending, AreBlocksOf, AreTables, Block};
 ghost use Rattle.tall_blocks.specs.Cut.{IsCutWork, IsOfRows};
-ghost use Rattle.tall_blocks.specs.PassWork.{AreScalarsLower, IsCutAt, IsCutFor, IsDueOf, IsEndOf, IsWorkOf, cut_at};
+ghost use Rattle.tall_blocks.specs.PassWork.{AreAsked, AreScalarsLower, IsCutAt, IsCutFor, IsDueOf, IsEndOf, IsWorkOf, cut_at, cut_under};
 ghost use Rattle.tall_blocks.specs.Pieces.{AreScansFree, carry_in, fault_from, has_rows_of, pass_blocks, store_blocks};
 ghost use Rattle.tall_blocks.specs.SeenFaults.{IsBlockwise};
 
-/// All that a pass may compute is told by a test, and serves; all that has rows of a datastore has them with its operands. By levels and by ranks a scalar that a value with rows is made
+/// All that a pass may compute is told by a test, and serves; so does what it asks for with all that this is made of; all
+/// that has rows of a datastore has them with its operands. By levels and by ranks a scalar that a value with rows is made
 /// of comes before the value's pass.
 pub fn the_values_of_a_pass_are_told()
     ensures tested { (store : ℕ) (vs : List Vertex) (f : ℕ → Tall) (levels : ℕ → ℕ) (needed : List ℕ) (k : ℕ) (c : Option Fault) → IsCutAt store vs f levels needed k c (cut_at store vs f levels needed k c) }
     ensures largest { (columns : Columns) (of_stores : ℕ → List ℕ) (vs : List Vertex) (f : ℕ → Tall) (levels carried : ℕ → ℕ) (roots needed : List ℕ) → IsGather columns vs f levels roots needed
         → (store k : ℕ) (c : Option Fault) → (cut : ℕ → Bool) → IsCutAt store vs f levels needed (k + 1) c cut
         → ((i a : ℕ) (v : Vertex) → is_scan_at (slice_get vs i) ≡ true → has_rows (f i).shape.space ≡ true → slice_get vs i ≡ Some v → IsAmong v.args a → levels a ≤ carried i) → IsCutFor store vs f levels carried needed (k + 1) c cut }
+    ensures least { (columns : Columns) (of_stores : ℕ → List ℕ) (vs : List Vertex) (f : ℕ → Tall) (levels carried : ℕ → ℕ) (roots needed : List ℕ) → IsGather columns vs f levels roots needed
+        → (store k : ℕ) (c : Option Fault) → (asked : List ℕ) → AreAsked store vs f levels carried needed (k + 1) c asked → IsCutFor store vs f levels carried needed (k + 1) c (cut_under store vs f asked) }
     ensures rows { (store : ℕ) (vs : List Vertex) (f : ℕ → Tall) → IsOfRows store vs f (has_rows_of store f) }
     ensures levels { (columns : Columns) (vs : List Vertex) (f : ℕ → Tall) → IsMeaning columns vs f → AreScalarsLower vs f (levels_in f) }
     ensures ranks { (columns : Columns) (vs : List Vertex) (f : ℕ → Tall) → IsMeaning columns vs f → AreScalarsLower vs f (ranks_in vs f) }
 {}
 
-/// After the passes of the levels up to k, with the candidate c, what the next level's pass computes can be cut into blocks,
-/// with all that its work needs of the lower levels. What stands below the level has no own fault, so the least fault that is
-/// found block by block is that of the level's work with rows of the datastore; what is cut and numbered below it has no fault,
-/// nor has the operand of a scan. The carries that the pass needs, and those that are due, are those of the datastore's blocks.
-/// The least fault of all work of the pass is the earlier of it and of those of the reductions, ends, distinct values and
-/// groups: of these only the ones numbered below it are looked at.
+/// After the passes of the levels up to k, with the candidate c, what the next level's pass computes can be cut into
+/// blocks, with all that its work needs of the lower levels. What stands below the level has no own fault, so the least
+/// fault that is found block by block is that of the level's work with rows of the datastore; what is cut and numbered
+/// below it has no fault, nor has the operand of a scan. The carries that the pass needs, and those that are due, are those
+/// of the datastore's blocks. The least fault of all work of the pass is the earlier of it and of those of the reductions,
+/// ends, distinct values and groups: of these only the ones numbered below it are looked at.
 pub fn a_pass_finds_the_fault_of_its_level()
     ensures blockwise { (columns : Columns) (of_stores : ℕ → List ℕ) (vs : List Vertex) (f : ℕ → Tall) (levels carried : ℕ → ℕ) (roots needed : List ℕ) → IsGather columns vs f levels roots needed
         → (store k : ℕ) (c : Option Fault) → IsLeast (own_in vs f) (UpTo (nodes_by vs f levels) (IsAmong needed) k) c → (cut : ℕ → Bool) → IsCutFor store vs f levels carried needed (k + 1) c cut

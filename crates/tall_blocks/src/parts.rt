@@ -30,8 +30,8 @@ pub fn places_and_numbers_of_rows_agree()
 {}
 
 /// What a reduction and a method of groups give is told by what is kept of the cells; with further cells it goes on from
-/// there. What is kept of two parts joins, but for the sum in an integer class; joining is associative, and what is kept of no
-/// cells changes nothing on either side.
+/// there. What is kept of two parts joins, but for the sum in an integer class; joining is associative, and what is kept of
+/// no cells changes nothing on either side.
 pub fn reductions_go_on_from_what_is_kept()
     ensures reductions { (r : Reduction) (a : Kind) (cs : List Seen) → reduced r a cs ≡ reduction_result r a (more (fold_of r a) (start (fold_of r a)) (used (omits r) cs)) }
     ensures methods { (m : Method) (a : Kind) (cs : List Seen) → group_value m a cs ≡ method_result m a (more (method_fold m a) (start (method_fold m a)) (used (method_omits m) cs)) }

@@ -19,8 +19,8 @@ ghost use Rattle.tall_blocks.specs.SeenFaults.{IsBlockwise};
 ghost use Rattle.tall_blocks.specs.ValuesOver.{IsOver, no_cells, value_over};
 
 /// Over a block the values are those of its rows, each scan behind the cells that its operand has in the blocks before.
-/// Where the scan's carry for the block is there, it is the scan from that one cell. What a value is over a block, and so the
-/// carries, are the same in each pass that computes it.
+/// Where the scan's carry for the block is there, it is the scan from that one cell. What a value is over a block, and so
+/// the carries, are the same in each pass that computes it.
 pub fn a_block_is_computed_from_its_carries()
     ensures over { (columns : Columns) (of_stores : ℕ → List ℕ) (vs : List Vertex) (f : ℕ → Tall) (store : ℕ) (cut : ℕ → Bool) (bs : List Block) → IsBlockwise columns of_stores vs f store cut bs
         → (n : ℕ) (h : ℕ → Outcome) → slice_get (pass_blocks vs f cut bs) n ≡ Some h → (b : Block) × (before : ℕ → List Seen) × (slice_get bs n ≡ Some b) × IsOver (block_columns b) before vs f cut h
@@ -38,10 +38,10 @@ pub fn a_block_is_computed_from_its_carries()
 {}
 
 /// The least fault of a pass goes from block to block: it is the earlier of what was found before and what is seen in the
-/// block. So it is over the first blocks, and over all. A block's work may leave out what isn't numbered below the least fault
-/// of the blocks before; and where a scan's carry is missing, the scan and all that isn't numbered below it are not, since the
-/// scan's own fault lies in an earlier block. An operand is looked at with what is made of it, and each scan that is looked at
-/// has its carry.
+/// block. So it is over the first blocks, and over all. A block's work may leave out what isn't numbered below the least
+/// fault of the blocks before; and where a scan's carry is missing, the scan and all that isn't numbered below it are not,
+/// since the scan's own fault lies in an earlier block. An operand is looked at with what is made of it, and each scan that
+/// is looked at has its carry.
 pub fn the_least_fault_goes_from_block_to_block()
     ensures all { (columns : Columns) (of_stores : ℕ → List ℕ) (vs : List Vertex) (f : ℕ → Tall) (store : ℕ) (cut : ℕ → Bool) (bs : List Block) → IsBlockwise columns of_stores vs f store cut bs
         → (work : List ℕ) → IsCutWork vs cut (IsAmong work) → IsLeast (own_in vs f) (IsAmong work) (fault_from vs f work None (pass_blocks vs f cut bs)) }

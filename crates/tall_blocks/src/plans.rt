@@ -16,16 +16,17 @@ ghost use Rattle.tall_blocks.specs.LevelWork.{AreInOrder, earliest, rest_of};
 ghost use Rattle.tall_blocks.specs.PassWork.{IsDueOf, IsEndOf, IsWorkOf};
 
 /// The passes of a plan stand in the order of their levels, and those of a level in the order of their datastores. A root's
-/// column is kept by the pass of its level where its rows are the pass's datastore's, and by no other; it is work of this pass.
+/// column is kept by the pass of its level where its rows are the pass's datastore's, and by no other; it is work of this
+/// pass.
 pub fn passes_go_level_by_level()
     ensures order { (vs : List Vertex) (roots : List ℕ) → AreInOrder (plan_of vs roots) }
     ensures collected { (vs : List Vertex) → IsOrdered vs → (roots : List ℕ) → AreThere vs roots → (s k i : ℕ) → IsAmong (collected vs roots s k) i ↔ (IsAmong roots i × (store_of (shape_at vs i).space ≡ Some s) × (level (shape_at vs i) ≡ k)) }
     ensures of_work { (vs : List Vertex) → IsOrdered vs → (roots : List ℕ) → AreThere vs roots → (s k i : ℕ) → IsAmong (collected vs roots s k) i → IsAmong (work_of vs (needed_of vs roots) s k) i }
 {}
 
-/// By ranks the work of the plan's pass, below a candidate, is the level's work over its datastore and the scans whose carries
-/// are due. What the passes of a level compute is the work of one of them, so their least faults join to the level's. What
-/// stands in no pass is the work of the rank behind. Before the first level no scan is due.
+/// By ranks the work of the plan's pass, below a candidate, is the level's work over its datastore and the scans whose
+/// carries are due. What the passes of a level compute is the work of one of them, so their least faults join to the
+/// level's. What stands in no pass is the work of the rank behind. Before the first level no scan is due.
 pub fn the_work_of_a_pass_is_that_of_its_level()
     ensures work { (columns : Columns) (vs : List Vertex) (f : ℕ → Tall) → IsMade vs → IsMeaning columns vs f → IsOrdered vs → (needed : List ℕ) → AreThere vs needed → (c : Option Fault) (s k i : ℕ)
         → (IsAmong (work_of vs needed s k) i × IsBelow c (number_at (slice_get vs i)))
