@@ -15,3 +15,4 @@ mod SizesApart
 mod SizedOpenings
 mod LaterNumbers
 mod PhaseStores
+mod VerticesAdded

@@ -23,3 +23,4 @@ pub mod SizeLaws
 pub mod MapReduceLaws
 pub mod StoreArgumentRows
 pub mod BlockLaws
+pub mod VertexLaws

@@ -1,6 +1,6 @@
 //! Laws of the definitions, each the contract of a function without a body.
 ghost use Rattle.std.specs.Prelude.{◌≡◌, ◌≤◌, ◌++◌, ℕ, Bool, true, List, [], ◌∷◌, length, map, slice_get, Some, Result};
-ghost use Rattle.std.specs.List.{flat_map};
+ghost use Rattle.std.specs.List.{All, flat_map};
 ghost use Rattle.tall_column.specs.Columns.{SeenColumn};
 ghost use Rattle.tall_cut.specs.declared.cutter.ReadSize.{ReadSize};
 ghost use Rattle.tall_cut.specs.declared.cutter.ReadSize.TheVariants.{File};
@@ -33,6 +33,10 @@ ghost use Rattle.tall_script.specs.Statements.{body};
 ghost use Rattle.tall_script.specs.States.{State, Store, empty_state, times_allowed};
 ghost use Rattle.tall_script.specs.StatesFollow.{Follows, done_state};
 ghost use Rattle.tall_script.specs.TallTables.{tall_of_store};
+ghost use Rattle.tall_script.specs.VertexLaws.{Adds, IsLower, MayFollow, MayStandBeside, variable_of};
+ghost use Rattle.tall_semantics.specs.Deferred.{Vertex};
+ghost use Rattle.tall_semantics.specs.Faults.{At};
+ghost use Rattle.tall_value.specs.declared.class.Class.{Class};
 ghost use Rattle.tall_script.specs.WellFormed.{GivesStanding, GiveStanding, HaveNoFault, IsWellFormed, Stands};
 ghost use Rattle.tall_semantics.specs.Talls.{Tall};
 ghost use Rattle.tall_store.specs.Opening.{opening};
@@ -61,7 +65,15 @@ pub fn wholes_are_above_their_parts()
     ensures { (l m n : ℕ) (ts : List Lexeme) (e : Tree) → IsExpr l m ts e n → Ascends e }
 {}
 
-/// For each words and files there is exactly one answer, and one number of times that a file may be opened.
+/// Each vertex that an expression of a script adds to a graph keeps what the graph keeps of its numbers: of the operations of an
+/// expression, where those so far have lower numbers, as `later` says of statements and `wholes_are_above_their_parts` of parts; and
+/// of the variables of a datastore, which have the number and the line of its call.
+pub fn added_vertices_keep_the_numbers()
+    ensures expressions { (vs ws : List Vertex) (at : At) → All (IsLower at) vs → Adds at (length vs) ws → MayFollow vs ws }
+    ensures variables { (vs : List Vertex) (at : At) (place : ℕ) (xs : List (ℕ × Class)) → All (MayStandBeside at place) vs → MayFollow vs (map (variable_of at place) xs) }
+{}
+
+/// For each name of a script and files there is exactly one answer, and one number of times that a file may be opened.
 pub fn a_script_has_one_answer()
     ensures answer { (files : Files) (name : List ℕ) → HasOneAnswer files name }
     ensures openings { (files : Files) (name file : List ℕ) → HasOneAllowance files name file }
