@@ -9,7 +9,7 @@ use Rattle.tall_local.specs.Calls.{CallResult, call_map, call_reduce, behind_pai
 use Rattle.tall_local.specs.Pairs.{Pair, values_of}
 use Rattle.tall_local.specs.Refusals.{Stop}
 use Rattle.tall_local.proofs.CallsAppended.{call_appended}
-use Rattle.tall_script.specs.MapReduce.{go_on_with, mapped, reduced}
+use Rattle.tall_script.specs.MapReduce.{go_on_with, map_phase, reduce_phase}
 use Rattle.tall_script.specs.MapReduceLaws.{joined_results, mapped_block, reduced_key}
 use Rattle.tall_script.specs.States.{Store}
 
@@ -24,15 +24,15 @@ further : (c : CallResult) (f g : List Pair → Result (List Pair) Stop) → ((p
 further c f g same = same_further c.stop c.pairs f g (same c.pairs)
 
 pub mapped_apart : (d : Store) (f : SeenFunction) (blocks : List (Result (List (List ℕ × SeenColumn)) ReadingFault)) (pairs : List Pair)
-    → mapped d f blocks pairs ≡ joined_results (map (mapped_block d f) blocks) pairs
+    → map_phase d f blocks pairs ≡ joined_results (map (mapped_block d f) blocks) pairs
 mapped_apart d f [] pairs = refl
 mapped_apart d f (Err fault ∷ rest) pairs = refl
 mapped_apart d f (Ok block ∷ rest) pairs =
-    ap (λ c. go_on_with c (λ more. mapped d f rest more)) (call_appended f _ [] pairs)
+    ap (λ c. go_on_with c (λ more. map_phase d f rest more)) (call_appended f _ [] pairs)
     ∙ further (behind_pairs pairs (call_map f block [])) _ _ (λ more. mapped_apart d f rest more)
 
-pub reduced_apart : (f : SeenFunction) (pairs : List Pair) (keys : List Seen) (out : List Pair) → reduced f pairs keys out ≡ joined_results (map (reduced_key f pairs) keys) out
+pub reduced_apart : (f : SeenFunction) (pairs : List Pair) (keys : List Seen) (out : List Pair) → reduce_phase f pairs keys out ≡ joined_results (map (reduced_key f pairs) keys) out
 reduced_apart f pairs [] out = refl
 reduced_apart f pairs (key ∷ keys) out =
-    ap (λ c. go_on_with c (λ more. reduced f pairs keys more)) (call_appended f _ (values_of key pairs) out)
+    ap (λ c. go_on_with c (λ more. reduce_phase f pairs keys more)) (call_appended f _ (values_of key pairs) out)
     ∙ further (behind_pairs out (call_reduce f key (values_of key pairs) [])) _ _ (λ more. reduced_apart f pairs keys more)

@@ -6,7 +6,7 @@ use Rattle.tall_grammar.specs.Refusals.{line_of}
 use Rattle.tall_grammar.specs.Trees.{Tree, tree, Trees, no_trees, and_tree, Args, no_args, value_arg, colon_arg, Step, assign_step, add_step, if_step, while_step, for_step, Steps, no_steps, and_step, Arms, no_arms, and_arm, Body, assigned, gathered, property, bare, SeenStatement, SeenFunction, SeenScript}
 use Rattle.tall_grammar.specs.Trees as trees
 use Rattle.tall_script.specs.Numbering.{numbered, numbered_trees, numbered_args, numbered_body, numbered_step, numbered_steps, numbered_arms, numbered_statements, numbered_functions, numbered_script}
-use Rattle.tall_script.specs.NumberLaws.{numbers_of, numbers_of_trees, numbers_of_args, numbers_of_body, numbers_of_step, numbers_of_steps, numbers_of_arms, numbers_of_statements, numbers_of_functions, numbers_of_script, AreInTurn, number_at, Ascends, AscendTo, ArgsAscendTo}
+use Rattle.tall_script.specs.NumberLaws.{numbers_of, numbers_of_trees, numbers_of_args, numbers_of_body, numbers_of_step, numbers_of_steps, numbers_of_arms, numbers_of_statements, numbers_of_functions, numbers_of_script, AreInTurn, own_number, Ascends, AscendTo, ArgsAscendTo}
 use Rattle.tall_script.proofs.Numbers.{expr_numbered, script_numbered}
 
 both : (m k n : ℕ) (ns more : List ℕ) → AreInTurn m ns k → AreInTurn k more n → AreInTurn m (ns ++ more) n
@@ -114,7 +114,7 @@ no_less m n (x ∷ ns) h = one_more m n (no_less (suc m) n ns h.1) where
   one_more : (a b : ℕ) → suc a ≤ b → a ≤ b
   one_more a b e = omega (arith, e)
 
-next_after : (e : Tree) (l m : ℕ) → suc (number_at (numbered e l m).0) ≡ (numbered e l m).1
+next_after : (e : Tree) (l m : ℕ) → suc (own_number (numbered e l m).0) ≡ (numbered e l m).1
 next_after (tree k j (trees.number d)) l m = refl
 next_after (tree k j (trees.text t)) l m = refl
 next_after (tree k j (trees.name s)) l m = refl
@@ -125,8 +125,8 @@ next_after (tree k j (trees.joined op e f)) l m = refl
 next_after (tree k j (trees.member e s)) l m = refl
 next_after (tree k j (trees.call e args)) l m = refl
 
-below : (e : Tree) (l m n : ℕ) → (numbered e l m).1 ≤ n → number_at (numbered e l m).0 < n
-below e l m n h = less (number_at (numbered e l m).0) (numbered e l m).1 n (next_after e l m) h where
+below : (e : Tree) (l m n : ℕ) → (numbered e l m).1 ≤ n → own_number (numbered e l m).0 < n
+below e l m n h = less (own_number (numbered e l m).0) (numbered e l m).1 n (next_after e l m) h where
   less : (a b c : ℕ) → suc a ≡ b → b ≤ c → a < c
   less a b c e h = omega (arith, e, h)
 

@@ -30,7 +30,7 @@ use Rattle.tall_local.specs.declared.functions.ScriptFunction.TheVariants.{OfVal
 use Rattle.tall_local.proofs.ListedCalls.{value_unlisted, arguments_unlisted}
 use Rattle.tall_local.proofs.StatesKept.{value_kept, arguments_kept}
 use Rattle.tall_script.specs.Datastores.{datastore_call, options_in, first_opening, made_store, store_with}
-use Rattle.tall_script.specs.Gathers.{answered_all, gathered, gather_all, gather_if, gather_one, gather_openings, gather_value, talls_in}
+use Rattle.tall_script.specs.Gathers.{answered_all, gathered_value, gather_all, gather_if, gather_one, gather_openings, gather_value, talls_in}
 use Rattle.tall_script.specs.OpeningLaws.{ScriptCall, makes_datastore, gathers_tall, gathers_one, gathers_into, reduces_store, call_opens, OpensNothing, GathersNothing, IsQuiet}
 use Rattle.tall_script.specs.ScriptLanguage.{Setting, place, mapreduce_with, function_in, reduced_arguments, reduce_store, script_call, script_language, script_value, table_or_stop}
 use Rattle.tall_script.specs.ScriptValues.{TallValue}
@@ -103,9 +103,9 @@ module _ (file : List ℕ) where
   in_memory_then s (gives m t) h = h
   in_memory_then s (stops stop t) h = h
 
-  one_value : (line : ℕ) (v : TallValue) (s : State Tall) → gathers_tall (gathered v) (v ∷ []) ≡ false → Leaves s (state_after (gather_value line v s))
+  one_value : (line : ℕ) (v : TallValue) (s : State Tall) → gathers_tall (gathered_value v) (v ∷ []) ≡ false → Leaves s (state_after (gather_value line v s))
   unfolding gather_value
-  one_value line v s h = if_gathered line (v ∷ []) (gathered v) s h
+  one_value line v s h = if_gathered line (v ∷ []) (gathered_value v) s h
 
   one_gather : (at : At) (vs : Option (List TallValue)) (s : State Tall) → gathers_one vs ≡ false → Leaves s (state_after (gather_one at vs s))
   one_gather at None s h = refl
@@ -113,9 +113,9 @@ module _ (file : List ℕ) where
   one_gather at (Some (v ∷ [])) s h = in_memory_then s (gather_value at.line v s) (one_value at.line v s h)
   one_gather at (Some (v ∷ w ∷ vs)) s h = refl
 
-  all_gathered : (line : ℕ) (vs : List TallValue) (s : State Tall) → gathers_tall (each_of gathered vs) vs ≡ false → Leaves s (state_after (gather_all line vs s))
+  all_gathered : (line : ℕ) (vs : List TallValue) (s : State Tall) → gathers_tall (each_of gathered_value vs) vs ≡ false → Leaves s (state_after (gather_all line vs s))
   unfolding gather_all
-  all_gathered line vs s h = if_gathered line vs (each_of gathered vs) s h
+  all_gathered line vs s h = if_gathered line vs (each_of gathered_value vs) s h
 
   -- ---- mapreduce
 
@@ -212,7 +212,7 @@ module _ (file : List ℕ) where
     into : (line : ℕ) (shown : Bool) (names : List (List ℕ)) (vs : Option (List TallValue)) (s : State Tall) → gathers_into names vs ≡ false → Leaves s (done_state (gather_into line shown names vs s))
     into line shown names None s h = refl
     into line shown names (Some vs) s h = by_test (length names == length vs) h where
-      by_test : (b : Bool) → (b && gathers_tall (each_of gathered vs) vs) ≡ false
+      by_test : (b : Bool) → (b && gathers_tall (each_of gathered_value vs) vs) ≡ false
           → Leaves s (done_state (if b then then_do (gather_all line vs s) (λ ms t. set_names shown names ms [] t) else fails (stop_at line bad_argument) s))
       by_test true i = after_value s (gather_all line vs s) (λ ms t. set_names shown names ms [] t) (all_gathered line vs s i) (λ ms t e. all_named shown names ms [] t)
       by_test false i = refl

@@ -36,7 +36,7 @@ use Rattle.tall_local.specs.Values.{datastore, tall_table, deferred, in_memory}
 use Rattle.tall_local.specs.MemoryLaws.{OnGiven}
 use Rattle.tall_local.proofs.ValuesKept.{ArgumentsAre, Gives, value_is, arguments_are}
 use Rattle.tall_script.specs.Datastores.{datastore_call, options_in, first_opening, made_store, store_with}
-use Rattle.tall_script.specs.Gathers.{answered_all, values_or_fault, gathered, gather_all, gather_if, gather_one, gather_openings, gather_value, talls_in}
+use Rattle.tall_script.specs.Gathers.{answered_all, values_or_fault, gathered_value, gather_all, gather_if, gather_one, gather_openings, gather_value, talls_in}
 use Rattle.tall_script.specs.Runs.{Run, next, run_from}
 use Rattle.tall_script.specs.ScriptLanguage.{Setting, place, read_name, readall_answer, mapreduce_with, reduced_arguments, reduce_store, script_call, script_language, script_value, table_or_stop}
 use Rattle.tall_script.specs.ScriptValues.{TallValue}
@@ -188,11 +188,11 @@ if_gathered line vs (Err e) s w = (same s, w)
 
 all_gathered : (line : ℕ) (vs : List TallValue) (s : State Tall) → IsWellFormed s → Gives Later IsWellFormed (λ u vs. Unit {0}) s (gather_all line vs s)
 unfolding gather_all
-all_gathered line vs s w = if_gathered line vs (each_of gathered vs) s w
+all_gathered line vs s w = if_gathered line vs (each_of gathered_value vs) s w
 
 value_gathered : (line : ℕ) (v : TallValue) (s : State Tall) → IsWellFormed s → Gives Later IsWellFormed (λ u m. Unit {0}) s (gather_value line v s)
 unfolding gather_value
-value_gathered line v s w = if_gathered line (v ∷ []) (gathered v) s w
+value_gathered line v s w = if_gathered line (v ∷ []) (gathered_value v) s w
 
 in_memory_then : (s : State Tall) (r : Valued Memory (State Tall)) → Gives Later IsWellFormed (λ u m. Unit {0}) s r → Leaves s (go_on r (λ m t. gives (in_memory m) t))
 in_memory_then s (gives m t) h = (h.0, h.1, tt)
@@ -283,7 +283,7 @@ module _ (setting : Setting) where
       → IsWellFormed (done_state (gather_into line shown names vs s))
   gathered_into line shown names None s w = w
   gathered_into line shown names (Some vs) s w = by_test (length names == length vs) where
-    by_test : (b : Bool) → IsWellFormed (done_state (if b then then_do (gather_all line vs s) (λ gathered t. set_names shown names gathered [] t) else fails (stop_at line bad_argument) s))
+    by_test : (b : Bool) → IsWellFormed (done_state (if b then then_do (gather_all line vs s) (λ ms t. set_names shown names ms [] t) else fails (stop_at line bad_argument) s))
     by_test true = after (λ t vs. Unit {0}) s (gather_all line vs s) _ (all_gathered line vs s w) (λ vs t u i. all_set shown names vs [] t u)
     by_test false = w
 
@@ -379,8 +379,8 @@ gives_without_fault line vs (Err e) s u x h = absurd cc
 
 pub gathered_without_fault : (line : ℕ) (vs : List TallValue) (s u : State Tall) (ms : List Memory) → gather_all line vs s ≡ given_by ms u → HaveNoFault (flat_map talls_in vs)
 unfolding gather_all
-gathered_without_fault line vs s u ms h = gives_without_fault line vs (each_of gathered vs) s u ms h
+gathered_without_fault line vs s u ms h = gives_without_fault line vs (each_of gathered_value vs) s u ms h
 
 pub value_without_fault : (line : ℕ) (v : TallValue) (s u : State Tall) (m : Memory) → gather_value line v s ≡ given_by m u → HaveNoFault (flat_map talls_in (v ∷ []))
 unfolding gather_value
-value_without_fault line v s u m h = gives_without_fault line (v ∷ []) (gathered v) s u m h
+value_without_fault line v s u m h = gives_without_fault line (v ∷ []) (gathered_value v) s u m h

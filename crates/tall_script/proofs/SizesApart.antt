@@ -39,7 +39,7 @@ use Rattle.tall_local.specs.Values.{datastore, tall_table, deferred, in_memory}
 use Rattle.tall_local.specs.declared.functions.ScriptFunction.{ScriptFunction}
 use Rattle.tall_local.specs.declared.functions.ScriptFunction.TheVariants.{OfValues, TabularTextDatastore, Tall as TallOf, Gather, MapReduce, ReadAll, Elsewhere}
 use Rattle.tall_script.specs.Datastores.{datastore_call, options_in, first_opening, made_store, store_with, or_bad, changed}
-use Rattle.tall_script.specs.Gathers.{answered_all, values_or_fault, gathered, gather_all, gather_if, gather_one, gather_openings, gather_value, talls_in}
+use Rattle.tall_script.specs.Gathers.{answered_all, values_or_fault, gathered_value, gather_all, gather_if, gather_one, gather_openings, gather_value, talls_in}
 use Rattle.tall_script.specs.ReadingFaults.{reading_in, refusal_of_cause, stop_of_fault}
 use Rattle.tall_script.specs.Runs.{Run, behind, next, run_from}
 use Rattle.tall_script.specs.ScriptLanguage.{Setting, place, read_name, is_mapreduce, script_call, script_language, script_value}
@@ -183,11 +183,11 @@ if_gathered line vs (Ok w) s =
 
 one_value : (line : ℕ) (v : TallValue) (s : State Tall) → Same (gather_value line v (sizeless_state s)) (gather_value line v s)
 unfolding gather_value
-one_value line v s = if_gathered line (v ∷ []) (gathered v) s
+one_value line v s = if_gathered line (v ∷ []) (gathered_value v) s
 
 all_gathered : (line : ℕ) (vs : List TallValue) (s : State Tall) → Same (gather_all line vs (sizeless_state s)) (gather_all line vs s)
 unfolding gather_all
-all_gathered line vs s = if_gathered line vs (each_of gathered vs) s
+all_gathered line vs s = if_gathered line vs (each_of gathered_value vs) s
 
 abbrev held_value : Memory → State Tall → Valued TallValue (State Tall)
 held_value m t = gives (in_memory m) t

@@ -17,7 +17,7 @@ use Rattle.tall_local.specs.Arguments.{Argument}
 use Rattle.tall_script.specs.Datastores.{datastore_call, options_in, first_opening, made_store, store_with}
 use Rattle.tall_local.specs.Expressions.{Valued, gives, stops, go_on, answered, arguments}
 use Rattle.tall_local.specs.declared.functions.ScriptFunction.TheVariants.{OfValues, TabularTextDatastore, Tall as TallOf, Gather, MapReduce, ReadAll, Elsewhere}
-use Rattle.tall_script.specs.Gathers.{answered_all, gathered, gather_all, gather_if, gather_one, gather_openings, gather_value, talls_in}
+use Rattle.tall_script.specs.Gathers.{answered_all, gathered_value, gather_all, gather_if, gather_one, gather_openings, gather_value, talls_in}
 use Rattle.tall_local.specs.Memory.{Memory}
 use Rattle.tall_local.specs.Refusals.{Refusal, Stop}
 use Rattle.tall_local.specs.StateLaws.{state_after, IsKept, CallsKeep}
@@ -82,11 +82,11 @@ if_gathered line vs (Ok w) s = let xs = flat_map talls_in vs in all_answered s (
 
 pub gathers : (line : ℕ) (vs : List TallValue) (s : State Tall) → Follows s (state_after (gather_all line vs s))
 unfolding gather_all
-gathers line vs s = if_gathered line vs (each_of gathered vs) s
+gathers line vs s = if_gathered line vs (each_of gathered_value vs) s
 
 one_value : (line : ℕ) (v : TallValue) (s : State Tall) → Follows s (state_after (gather_value line v s))
 unfolding gather_value
-one_value line v s = if_gathered line (v ∷ []) (gathered v) s
+one_value line v s = if_gathered line (v ∷ []) (gathered_value v) s
 
 in_memory_then : (s : State Tall) (r : Valued Memory (State Tall)) → Follows s (state_after r) → Follows s (state_after {V = TallValue} (go_on r (λ m t. gives (in_memory m) t)))
 in_memory_then s (gives m t) h = h
@@ -152,7 +152,7 @@ choice false s d e h k = k
 gathered_into : (line : ℕ) (shown : Bool) (names : List (List ℕ)) (vs : Option (List TallValue)) (s : State Tall) → Follows s (done_state (gather_into line shown names vs s))
 gathered_into line shown names None s = same_state s
 gathered_into line shown names (Some vs) s =
-    choice (length names == length vs) s _ _ (after_value s (gather_all line vs s) _ (gathers line vs s) (λ gathered t. all_named shown names gathered [] t)) (same_state s)
+    choice (length names == length vs) s _ _ (after_value s (gather_all line vs s) _ (gathers line vs s) (λ ms t. all_named shown names ms [] t)) (same_state s)
 
 put : (line : ℕ) (shown : Bool) (name : List ℕ) (d : Result Store Refusal) (s : State Tall) → Follows s (done_state (put_store line shown name d s))
 put line shown name (Ok d) s = record { more_stores = d ∷ []; stores = refl; more_openings = []; opened = sym (append-nil s.opened) }

@@ -39,12 +39,12 @@ memory_of_outcome c (outcome.scalar cell) = scalar cell
 memory_of_outcome c x = column (record { class = c; cells = cells_in x })
 
 -- a value in memory is its own; a datastore and a list are refused
-abbrev pub gathered : TallValue → Result Memory Refusal
-gathered (in_memory (texts ts)) = Err bad_class
-gathered (in_memory v) = Ok v
-gathered (deferred x) = Ok (memory_of_outcome x.shape.class x.outcome)
-gathered (tall_table t) = Ok (table (each_named column_of_tall t))
-gathered (datastore place) = Err bad_class
+abbrev pub gathered_value : TallValue → Result Memory Refusal
+gathered_value (in_memory (texts ts)) = Err bad_class
+gathered_value (in_memory v) = Ok v
+gathered_value (deferred x) = Ok (memory_of_outcome x.shape.class x.outcome)
+gathered_value (tall_table t) = Ok (table (each_named column_of_tall t))
+gathered_value (datastore place) = Err bad_class
 
 -- ---- openings
 
@@ -74,11 +74,11 @@ gather_if line vs (Ok w) s = gather_known (flat_map talls_in vs) w s
 gather_if line vs (Err refusal) s = stops (stop_at line refusal) s
 
 unfoldable pub gather_all : (line : ℕ) → List TallValue → State Tall → Valued (List Memory) (State Tall)
-gather_all line vs s = gather_if line vs (each_of gathered vs) s
+gather_all line vs s = gather_if line vs (each_of gathered_value vs) s
 
 -- gather(x)
 unfoldable pub gather_value : (line : ℕ) → TallValue → State Tall → Valued Memory (State Tall)
-gather_value line v s = gather_if line (v ∷ []) (gathered v) s
+gather_value line v s = gather_if line (v ∷ []) (gathered_value v) s
 
 abbrev pub gather_one : At → Option (List TallValue) → State Tall → Valued TallValue (State Tall)
 gather_one at (Some (v ∷ [])) s = go_on (gather_value at.line v s) (λ m t. gives (in_memory m) t)

@@ -21,15 +21,15 @@ abbrev pub go_on_with : CallResult → (List Pair → Result (List Pair) Stop) �
 go_on_with c f = elim c.stop [ None ↦ f c.pairs | Some stop ↦ Err stop ]
 
 -- by block: its reading fault, else the function's
-abbrev pub mapped : Store → SeenFunction → List (Result (List (List ℕ × SeenColumn)) ReadingFault) → List Pair → Result (List Pair) Stop
-mapped d f [] pairs = Ok pairs
-mapped d f (Err fault ∷ rest) pairs = Err (stop_of_reading d fault)
-mapped d f (Ok block ∷ rest) pairs = go_on_with (call_map f block pairs) (λ more. mapped d f rest more)
+abbrev pub map_phase : Store → SeenFunction → List (Result (List (List ℕ × SeenColumn)) ReadingFault) → List Pair → Result (List Pair) Stop
+map_phase d f [] pairs = Ok pairs
+map_phase d f (Err fault ∷ rest) pairs = Err (stop_of_reading d fault)
+map_phase d f (Ok block ∷ rest) pairs = go_on_with (call_map f block pairs) (λ more. map_phase d f rest more)
 
 -- by key
-abbrev pub reduced : SeenFunction → List Pair → List Seen → List Pair → Result (List Pair) Stop
-reduced f pairs [] out = Ok out
-reduced f pairs (key ∷ keys) out = go_on_with (call_reduce f key (values_of key pairs) out) (λ more. reduced f pairs keys more)
+abbrev pub reduce_phase : SeenFunction → List Pair → List Seen → List Pair → Result (List Pair) Stop
+reduce_phase f pairs [] out = Ok out
+reduce_phase f pairs (key ∷ keys) out = go_on_with (call_reduce f key (values_of key pairs) out) (λ more. reduce_phase f pairs keys more)
 
 abbrev pub pairs_table : List Pair → Memory
 pairs_table out =
@@ -42,4 +42,4 @@ reduced_table (Err stop) = Err stop
 -- mapreduce(ds, @m, @r)
 unfoldable pub map_reduced : Files → Store → SeenFunction → SeenFunction → Result Memory Stop
 map_reduced files d m r =
-    elim (mapped d m (block_tables d.store files) []) [ Ok pairs ↦ reduced_table (reduced r pairs (keys_of pairs) []) | Err stop ↦ Err stop ]
+    elim (map_phase d m (block_tables d.store files) []) [ Ok pairs ↦ reduced_table (reduce_phase r pairs (keys_of pairs) []) | Err stop ↦ Err stop ]

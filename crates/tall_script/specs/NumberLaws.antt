@@ -69,8 +69,8 @@ AreBelow ms ns = All (λ m. All (λ n. m < n) ns) ms
 
 -- ---- parts
 
-abbrev pub number_at : Tree → ℕ
-number_at (tree n l shape) = n
+abbrev pub own_number : Tree → ℕ
+own_number (tree n l shape) = n
 
 -- each expression's number is above those of its parts: operands, what a member is of, what is called or indexed, and
 -- arguments; and it is so in each part
@@ -81,16 +81,16 @@ abbrev mutual
   Ascends (tree n l (trees.name s)) = Unit {0}
   Ascends (tree n l (trees.handle s)) = Unit {0}
   Ascends (tree n l (trees.list es)) = AscendTo n es
-  Ascends (tree n l (trees.prefixed op e)) = (number_at e < n) × Ascends e
-  Ascends (tree n l (trees.joined op e f)) = (number_at e < n) × (number_at f < n) × Ascends e × Ascends f
-  Ascends (tree n l (trees.member e s)) = (number_at e < n) × Ascends e
-  Ascends (tree n l (trees.call e args)) = (number_at e < n) × Ascends e × ArgsAscendTo n args
+  Ascends (tree n l (trees.prefixed op e)) = (own_number e < n) × Ascends e
+  Ascends (tree n l (trees.joined op e f)) = (own_number e < n) × (own_number f < n) × Ascends e × Ascends f
+  Ascends (tree n l (trees.member e s)) = (own_number e < n) × Ascends e
+  Ascends (tree n l (trees.call e args)) = (own_number e < n) × Ascends e × ArgsAscendTo n args
 
   pub AscendTo : ℕ → Trees → Type 0
   AscendTo n no_trees = Unit {0}
-  AscendTo n (and_tree e es) = (number_at e < n) × Ascends e × AscendTo n es
+  AscendTo n (and_tree e es) = (own_number e < n) × Ascends e × AscendTo n es
 
   pub ArgsAscendTo : ℕ → Args → Type 0
   ArgsAscendTo n no_args = Unit {0}
-  ArgsAscendTo n (value_arg e args) = (number_at e < n) × Ascends e × ArgsAscendTo n args
+  ArgsAscendTo n (value_arg e args) = (own_number e < n) × Ascends e × ArgsAscendTo n args
   ArgsAscendTo n (colon_arg args) = ArgsAscendTo n args

@@ -15,7 +15,7 @@ use Rattle.tall_local.specs.StateLaws.{calls_none}
 use Rattle.tall_semantics.specs.Talls.{Tall}
 use Rattle.tall_store.specs.Options.{SeenOptions, is_accepted, is_nonempty}
 use Rattle.tall_script.specs.Datastores.{options_in}
-use Rattle.tall_script.specs.Gathers.{gathered as gathered_value, talls_in}
+use Rattle.tall_script.specs.Gathers.{gathered_value, talls_in}
 use Rattle.tall_script.specs.ScriptLanguage.{Setting, function_in, reduced_arguments, script_language}
 use Rattle.tall_script.specs.ScriptValues.{TallValue}
 use Rattle.tall_script.specs.States.{State}

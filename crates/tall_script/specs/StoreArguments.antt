@@ -68,10 +68,26 @@ pairs_given [] = Some []
 pairs_given (name ∷ []) = None
 pairs_given (name ∷ v ∷ rest) = with_option (text_of (scalar_in name)) v (pairs_given rest)
 
+abbrev pub delimiter_option : List ℕ
+delimiter_option = codes "Delimiter"
+
+abbrev pub size_option : List ℕ
+size_option = codes "ReadSize"
+
+abbrev pub missing_option : List ℕ
+missing_option = codes "TreatAsMissing"
+
+abbrev pub selected_option : List ℕ
+selected_option = codes "SelectedVariableNames"
+
+abbrev pub formats_option : List ℕ
+formats_option = codes "TextscanFormats"
+
+abbrev pub header_option : List ℕ
+header_option = codes "ReadVariableNames"
+
 abbrev pub option_names : List (List ℕ)
-option_names =
-    codes "Delimiter" ∷ codes "ReadSize" ∷ codes "TreatAsMissing" ∷ codes "SelectedVariableNames" ∷ codes "TextscanFormats"
-    ∷ codes "ReadVariableNames" ∷ []
+option_names = delimiter_option ∷ size_option ∷ missing_option ∷ selected_option ∷ formats_option ∷ header_option ∷ []
 
 -- each is an option, and stands once
 abbrev pub are_options : List (List ℕ) → Bool
@@ -96,12 +112,12 @@ options_with files delimiter size missing selected kinds header = None
 abbrev pub options_from : Memory → List (List ℕ × Memory) → Option SeenOptions
 options_from files given =
     options_with (texts_given files)
-    (option_or delimiter_given 44 (named given (codes "Delimiter")))
-    (option_or size_given (Rows 20000) (named given (codes "ReadSize")))
-    (option_or texts_given [] (named given (codes "TreatAsMissing")))
-    (optional texts_given (named given (codes "SelectedVariableNames")))
-    (optional formats_given (named given (codes "TextscanFormats")))
-    (option_or truth_given true (named given (codes "ReadVariableNames")))
+    (option_or delimiter_given 44 (named given delimiter_option))
+    (option_or size_given (Rows 20000) (named given size_option))
+    (option_or texts_given [] (named given missing_option))
+    (optional texts_given (named given selected_option))
+    (optional formats_given (named given formats_option))
+    (option_or truth_given true (named given header_option))
 
 -- the options of a call's arguments; none where they aren't accepted
 unfoldable pub options_given : List Memory → Option SeenOptions
@@ -113,5 +129,4 @@ options_given (files ∷ rest) =
 
 abbrev pub properties : List (List ℕ × Property)
 properties =
-    (codes "ReadSize", property.ReadSize) ∷ (codes "SelectedVariableNames", property.SelectedVariableNames)
-    ∷ (codes "TextscanFormats", property.TextscanFormats) ∷ []
+    (size_option, property.ReadSize) ∷ (selected_option, property.SelectedVariableNames) ∷ (formats_option, property.TextscanFormats) ∷ []

@@ -19,7 +19,7 @@ ghost use Rattle.tall_store.specs.Blocks.{in_blocks};
 ghost use Rattle.tall_cut.specs.Rows.{Fields};
 ghost use Rattle.tall_script.specs.AnswerLaws.{HasOneAllowance, HasOneAnswer};
 ghost use Rattle.tall_script.specs.Gathers.{gather_all, gather_value, talls_in};
-ghost use Rattle.tall_script.specs.MapReduce.{mapped, reduced};
+ghost use Rattle.tall_script.specs.MapReduce.{map_phase, reduce_phase};
 ghost use Rattle.tall_script.specs.MapReduceLaws.{joined_results, mapped_block, reduced_key};
 ghost use Rattle.tall_script.specs.NumberLaws.{AreBelow, AreInTurn, Ascends, numbers_of, numbers_of_body, numbers_of_script, numbers_of_statements};
 ghost use Rattle.tall_script.specs.Numbering.{numbered, numbered_script};
@@ -132,15 +132,15 @@ pub fn read_size_changes_mapreduce_alone()
 /// each other.
 pub fn mapreduce_is_made_of_calls_on_empty_stores()
     ensures map_phase { (d : Store) (f : SeenFunction) (blocks : List (Result (List (List ℕ × SeenColumn)) ReadingFault)) (pairs : List Pair)
-        → mapped d f blocks pairs ≡ joined_results (map (mapped_block d f) blocks) pairs }
-    ensures reduce_phase { (f : SeenFunction) (pairs : List Pair) (keys : List Seen) (out : List Pair) → reduced f pairs keys out ≡ joined_results (map (reduced_key f pairs) keys) out }
+        → map_phase d f blocks pairs ≡ joined_results (map (mapped_block d f) blocks) pairs }
+    ensures reduce_phase { (f : SeenFunction) (pairs : List Pair) (keys : List Seen) (out : List Pair) → reduce_phase f pairs keys out ≡ joined_results (map (reduced_key f pairs) keys) out }
 {}
 
 /// Each phase of mapreduce keeps the rules of its store: keys that a store takes, of one class, values of one class, and fewer than
 /// 2^40 pairs. With 'file' a block is all of a file that has a record, and of one without there is none.
 pub fn phases_keep_their_stores()
-    ensures map_phase { (d : Store) (f : SeenFunction) (blocks : List (Result (List (List ℕ × SeenColumn)) ReadingFault)) (pairs : List Pair) → IsStore pairs → IsStoreOrStop (mapped d f blocks pairs) }
-    ensures reduce_phase { (f : SeenFunction) (pairs : List Pair) (keys : List Seen) (out : List Pair) → IsStore out → IsStoreOrStop (reduced f pairs keys out) }
+    ensures map_phase { (d : Store) (f : SeenFunction) (blocks : List (Result (List (List ℕ × SeenColumn)) ReadingFault)) (pairs : List Pair) → IsStore pairs → IsStoreOrStop (map_phase d f blocks pairs) }
+    ensures reduce_phase { (f : SeenFunction) (pairs : List Pair) (keys : List Seen) (out : List Pair) → IsStore out → IsStoreOrStop (reduce_phase f pairs keys out) }
     ensures whole_file { (first : Fields) (rest : List Fields) → in_blocks File (first ∷ rest) ≡ (first ∷ rest) ∷ [] }
     ensures no_record { in_blocks File [] ≡ [] }
 {}

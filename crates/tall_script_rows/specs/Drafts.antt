@@ -88,8 +88,8 @@ steps [] = no_steps
 steps (b ∷ bs) = and_step b (steps bs)
 
 -- a function, from a line on
-abbrev pub routine : String → ℕ → List (Option (List ℕ)) → List Step → SeenFunction
-routine s l params bs = record { name = codes s; line = l; params = params; body = steps bs }
+abbrev pub function_from : String → ℕ → List (Option (List ℕ)) → List Step → SeenFunction
+function_from s l params bs = record { name = codes s; line = l; params = params; body = steps bs }
 
 abbrev pub parameter : String → Option (List ℕ)
 parameter s = Some (codes s)

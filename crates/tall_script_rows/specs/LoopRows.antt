@@ -11,7 +11,7 @@ use Rattle.tall_local.specs.Pairs.{has_room, is_within_store}
 use Rattle.tall_value.specs.Cells.{logical, double}
 use Rattle.tall_local.specs.Refusals.{stop_at, undefined, bad_class, bad_size, bad_argument, bad_index, failed, no_value_left, no_progress, too_many_turns}
 use Rattle.tall_script_rows.specs.RowWords.{whole_runs, block, map_parameters, map_stop, reduce_stop, after_turns, at_line}
-use Rattle.tall_script_rows.specs.Drafts.{number, text, name, infix_of, member, call, steps, with_line, routine, parameter}
+use Rattle.tall_script_rows.specs.Drafts.{number, text, name, infix_of, member, call, steps, with_line, function_from, parameter}
 
 -- if data.x > 0 / end
 column_as_condition : map_stop (
@@ -210,7 +210,7 @@ unfolding whole_runs
 no_turn_begins = refl
 
 -- add(store, 1, 2) / add(store, 1, 3) / x = y
-pairs_before_the_fault : call_map (routine "f" 1 map_parameters (add_step 2 (name "store") (number 1) (number 2) ∷ add_step 3 (name "store") (number 1) (number 3) ∷ assign_step 4 (codes "x") (with_line 4 (name "y")) ∷ [])) block []
+pairs_before_the_fault : call_map (function_from "f" 1 map_parameters (add_step 2 (name "store") (number 1) (number 2) ∷ add_step 3 (name "store") (number 1) (number 3) ∷ assign_step 4 (codes "x") (with_line 4 (name "y")) ∷ [])) block []
     ≡ record {
       pairs = record { key = double (Some (pos 1)); value = double (Some (pos 2)); line = 2 } ∷ record { key = double (Some (pos 1)); value = double (Some (pos 3)); line = 3 } ∷ [];
       stop = at_line 4 (undefined (codes "y"));
@@ -219,12 +219,12 @@ unfolding whole_runs
 pairs_before_the_fault = refl
 
 -- function f(store, ~, store): the name is the third parameter's
-two_parameters_of_a_name : (call_map (routine "f" 1 (parameter "store" ∷ None ∷ parameter "store" ∷ []) (add_step 2 (name "store") (number 1) (number 1) ∷ [])) block []).stop ≡ None
+two_parameters_of_a_name : (call_map (function_from "f" 1 (parameter "store" ∷ None ∷ parameter "store" ∷ []) (add_step 2 (name "store") (number 1) (number 1) ∷ [])) block []).stop ≡ None
 unfolding whole_runs
 two_parameters_of_a_name = refl
 
 -- function f(a, true, store)
-parameter_hides_a_constant : (call_map (routine "f" 1 (parameter "a" ∷ parameter "true" ∷ parameter "store" ∷ []) (assign_step 2 (codes "x") (with_line 2 (name "true")) ∷ [])) block []).stop ≡ at_line 2 (undefined (codes "true"))
+parameter_hides_a_constant : (call_map (function_from "f" 1 (parameter "a" ∷ parameter "true" ∷ parameter "store" ∷ []) (assign_step 2 (codes "x") (with_line 2 (name "true")) ∷ [])) block []).stop ≡ at_line 2 (undefined (codes "true"))
 unfolding whole_runs
 parameter_hides_a_constant = refl
 

@@ -7,7 +7,7 @@ use Rattle.tall_grammar.specs.Refusals.{read}
 use Rattle.tall_outside.specs.Shelf.{Files}
 use Rattle.tall_script.specs.Answers.{Answer, answer_of}
 use Rattle.tall_script_rows.specs.RowWords.{whole_runs, over, prints, fails, map_parameters}
-use Rattle.tall_script_rows.specs.Drafts.{number, text, name, handle, infix_of, member, index, texts, call, shown, silent, sets, steps, routine, parameter, script_with, with_line}
+use Rattle.tall_script_rows.specs.Drafts.{number, text, name, handle, infix_of, member, index, texts, call, shown, silent, sets, steps, function_from, parameter, script_with, with_line}
 
 -- data.x(1)
 abbrev first_of : String → Tree
@@ -15,10 +15,10 @@ first_of variable = index (member (name "data") variable) (number 1 ∷ [])
 
 -- a map function from line 4 on, a reduce function from line 20 on
 abbrev mapping : List Step → SeenFunction
-mapping bs = routine "m" 4 (parameter "data" ∷ None ∷ parameter "store" ∷ []) bs
+mapping bs = function_from "m" 4 (parameter "data" ∷ None ∷ parameter "store" ∷ []) bs
 
 abbrev reducing : List Step → SeenFunction
-reducing bs = routine "q" 20 (parameter "key" ∷ parameter "values" ∷ parameter "out" ∷ []) bs
+reducing bs = function_from "q" 20 (parameter "key" ∷ parameter "values" ∷ parameter "out" ∷ []) bs
 
 -- 1: ds = tabularTextDatastore('a.csv', 'TextscanFormats', {'%f', '%f'}, 'ReadSize', 1);
 -- 3: r = mapreduce(ds, @m, @q)

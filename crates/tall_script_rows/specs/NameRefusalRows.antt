@@ -4,7 +4,7 @@ use Rattle.tall_value.specs.declared.faults.FaultKind.TheVariants.{Inexact, NotW
 use Rattle.tall_grammar.specs.declared.expressions.Infix.TheVariants.{And, Eq, Add, DotDiv, Mul, Div}
 use Rattle.tall_local.specs.Refusals.{undefined, mixed_class, bad_class, bad_argument, failed}
 use Rattle.tall_script_rows.specs.RowWords.{whole_runs, ending_of, at_line}
-use Rattle.tall_script_rows.specs.Drafts.{number, text, name, handle, minus, negated, infix_of, member, texts, call, rows_of, silent, sets, routine, parameter, script, script_with}
+use Rattle.tall_script_rows.specs.Drafts.{number, text, name, handle, minus, negated, infix_of, member, texts, call, rows_of, silent, sets, function_from, parameter, script, script_with}
 
 -- x = y;
 no_such_name : ending_of [] (script (
@@ -51,7 +51,7 @@ handle_of_no_function = refl
 -- x = @m; / function m(a, b, c) / end
 handle_outside_mapreduce : ending_of [] (script_with (
     silent 1 (sets "x" (handle "m")) ∷ []) (
-    routine "m" 2 (parameter "a" ∷ parameter "b" ∷ parameter "c" ∷ [])
+    function_from "m" 2 (parameter "a" ∷ parameter "b" ∷ parameter "c" ∷ [])
     [] ∷ [])) ≡ at_line 1 bad_argument
 unfolding whole_runs
 handle_outside_mapreduce = refl
@@ -59,7 +59,7 @@ handle_outside_mapreduce = refl
 -- x = sum(@m); / function m(a, b, c) / end
 handle_as_another_argument : ending_of [] (script_with (
     silent 1 (sets "x" (call "sum" (handle "m" ∷ []))) ∷ []) (
-    routine "m" 2 (parameter "a" ∷ parameter "b" ∷ parameter "c" ∷ [])
+    function_from "m" 2 (parameter "a" ∷ parameter "b" ∷ parameter "c" ∷ [])
     [] ∷ [])) ≡ at_line 1 bad_argument
 unfolding whole_runs
 handle_as_another_argument = refl

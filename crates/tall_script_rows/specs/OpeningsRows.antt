@@ -5,7 +5,7 @@ use Rattle.tall_grammar.specs.Refusals.{read, syntax_at}
 use Rattle.tall_script.specs.AllowedOpenings.{allowed_of}
 use Rattle.tall_script.specs.Runs.{openings}
 use Rattle.tall_script_rows.specs.RowWords.{whole_runs, over, usual}
-use Rattle.tall_script_rows.specs.Drafts.{number, text, name, handle, infix_of, member, texts, call, shown, silent, sets, gathers, routine, parameter, script, script_with}
+use Rattle.tall_script_rows.specs.Drafts.{number, text, name, handle, infix_of, member, texts, call, shown, silent, sets, gathers, function_from, parameter, script, script_with}
 
 -- the opening alone
 -- a.csv: x / 3 / 5
@@ -137,7 +137,7 @@ refused_options = refl
 -- 5: end
 mapreduce_opens_once : openings (over (codes "x\n3\n5\n")) (script_with (usual ("%f" ∷ []) ++ (
     silent 3 (sets "r" (call "mapreduce" (name "ds" ∷ handle "m" ∷ handle "m" ∷ []))) ∷ [])) (
-    routine "m" 4 (parameter "a" ∷ parameter "b" ∷ parameter "c" ∷ [])
+    function_from "m" 4 (parameter "a" ∷ parameter "b" ∷ parameter "c" ∷ [])
     [] ∷ [])) (codes "a.csv") ≡ 2
 unfolding whole_runs
 mapreduce_opens_once = refl

@@ -2,7 +2,7 @@
 use Rattle.std.specs.Prelude.{◌≡◌, [], ◌∷◌, codes, refl}
 use Rattle.tall_local.specs.Refusals.{undefined, bad_class, bad_argument}
 use Rattle.tall_script_rows.specs.RowWords.{whole_runs, ending_of, at_line}
-use Rattle.tall_script_rows.specs.Drafts.{number, name, handle, texts, call, silent, sets, gathers, sets_property, routine, parameter, script, script_with}
+use Rattle.tall_script_rows.specs.Drafts.{number, name, handle, texts, call, silent, sets, gathers, sets_property, function_from, parameter, script, script_with}
 
 -- x = tall(1);
 tall_of_a_number : ending_of [] (script (
@@ -73,7 +73,7 @@ mapreduce_of_no_functions = refl
 -- x = mapreduce(1, @m, @m); / function m(a, b, c) / end
 mapreduce_of_a_number : ending_of [] (script_with (
     silent 1 (sets "x" (call "mapreduce" (number 1 ∷ handle "m" ∷ handle "m" ∷ []))) ∷ []) (
-    routine "m" 2 (parameter "a" ∷ parameter "b" ∷ parameter "c" ∷ [])
+    function_from "m" 2 (parameter "a" ∷ parameter "b" ∷ parameter "c" ∷ [])
     [] ∷ [])) ≡ at_line 1 bad_class
 unfolding whole_runs
 mapreduce_of_a_number = refl
@@ -81,7 +81,7 @@ mapreduce_of_a_number = refl
 -- x = mapreduce(1, @m, @nosuch); / function m(a, b, c) / end
 mapreduce_of_no_function : ending_of [] (script_with (
     silent 1 (sets "x" (call "mapreduce" (number 1 ∷ handle "m" ∷ handle "nosuch" ∷ []))) ∷ []) (
-    routine "m" 2 (parameter "a" ∷ parameter "b" ∷ parameter "c" ∷ [])
+    function_from "m" 2 (parameter "a" ∷ parameter "b" ∷ parameter "c" ∷ [])
     [] ∷ [])) ≡ at_line 1 (undefined (codes "nosuch"))
 unfolding whole_runs
 mapreduce_of_no_function = refl
@@ -89,7 +89,7 @@ mapreduce_of_no_function = refl
 -- x = mapreduce(1, @m); / function m(a, b, c) / end
 mapreduce_of_one_function : ending_of [] (script_with (
     silent 1 (sets "x" (call "mapreduce" (number 1 ∷ handle "m" ∷ []))) ∷ []) (
-    routine "m" 2 (parameter "a" ∷ parameter "b" ∷ parameter "c" ∷ [])
+    function_from "m" 2 (parameter "a" ∷ parameter "b" ∷ parameter "c" ∷ [])
     [] ∷ [])) ≡ at_line 1 bad_argument
 unfolding whole_runs
 mapreduce_of_one_function = refl
