@@ -1,10 +1,10 @@
 -- The operands of an application are arguments of its call; and which numbers of arguments have an application.
-use Rattle.std.proofs.Common.{◌≡◌, ℕ, zero, suc, List, [], ◌∷◌, Bool, true, false, refl, ap, sym, ◌∙◌}
+use Rattle.std.proofs.Common.{◌≡◌, ℕ, zero, suc, List, [], ◌∷◌, true, false, refl, ap}
 use Rattle.std.specs.Prelude.{pos, length, Option, None, Some, option_map, option_and_then, codes}
 use Rattle.tall_value.specs.declared.functions.Method.{Method}
 use Rattle.tall_value.specs.declared.functions.Method.TheVariants as method
 use Rattle.tall_value.specs.declared.operators.Binary.TheVariants as binary
-use Rattle.tall_value.specs.Cells.{Seen, whole, double, text}
+use Rattle.tall_value.specs.Cells.{whole, double, text}
 use Rattle.tall_value.specs.Classes.{least, greatest}
 use Rattle.tall_local.specs.declared.functions.SumOption.{SumOption}
 use Rattle.tall_local.specs.declared.functions.SumOption.TheVariants.{Native, OmitNan}

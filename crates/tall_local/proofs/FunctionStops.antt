@@ -35,19 +35,19 @@ use Rattle.tall_local.specs.declared.functions.ValueFunction.{ValueFunction}
 use Rattle.tall_local.specs.Names.{each_named}
 use Rattle.tall_local.specs.Applications.{Operation, reduce, height, scan, head, tail, distinct, groups, unary, Application, constant, to_one, to_two, application, takes}
 use Rattle.tall_local.specs.Arguments.{Argument, value_given, Index, rows_at, all_variables_at, index_of}
-use Rattle.tall_local.specs.Calls.{Ran, ends, breaks, and_run, or_break, turn_limit, truth_of, bounds_of, turns_between, assigned, pairs_with, set_pairs, takes_from_iterator, begin_turn, end_turn, where_holds, while_turns, for_turns, local_value, with_local, run_step, run_steps, run_arms, result_of, parameters, call_of}
+use Rattle.tall_local.specs.Calls.{Ran, ends, breaks, and_run, or_break, turn_limit, truth_of, bounds_of, turns_between, assigned, pairs_with, takes_from_iterator, begin_turn, end_turn, where_holds, while_turns, for_turns, local_value, with_local, run_step, run_steps, run_arms, result_of, parameters, call_of}
 use Rattle.tall_local.specs.Constants.{constant_named}
 use Rattle.tall_local.specs.Expressions.{Valued, gives, stops, answered}
 use Rattle.tall_local.specs.FunctionFaults.{is_of_functions, IsOfFunctions, OnRefused, OnStopped}
 use Rattle.tall_local.specs.Lists.{all_of}
 use Rattle.tall_local.specs.Locals.{Held, store, iterator, no_value, Locals, set_local, read_local, with_memory, is_held_scalar, held_binary, held_infix, held_index, held_values, held_function, held_call, is_only_iterator, next_value, argument_by, memory_of, memories_of, function_language}
 use Rattle.tall_local.specs.Locals as held
-use Rattle.tall_local.specs.Memory.{Memory, scalar, column, table, texts, is_scalar, scalar_in, kind_of_column}
+use Rattle.tall_local.specs.Memory.{Memory, scalar, column, table, texts, scalar_in, kind_of_column}
 use Rattle.tall_local.specs.MemoryFunctions.{memory_reduce, memory_height, memory_scan, memory_rows, memory_distinct, variable_named, memory_summary, memory_groups, memory_operation, memory_application, total_result, summary_result, with_classes, if_distinct}
-use Rattle.tall_local.specs.MemoryIndexing.{is_logical, memory_masked, if_mask, memory_column_index, memory_table_index, memory_index, memory_member, indexed_cell}
+use Rattle.tall_local.specs.MemoryIndexing.{is_logical, memory_masked, memory_column_index, memory_table_index, memory_index, memory_member, indexed_cell}
 use Rattle.tall_local.specs.MemoryOperators.{with_kind, scalar_result, column_result, memory_unary, if_equal_lengths, memory_binary, memory_prefix, binary_of, unary_of, scalars_fit}
-use Rattle.tall_local.specs.Pairs.{Pair, judged, misfit, added, with_pair}
-use Rattle.tall_local.specs.Refusals.{Refusal, undefined, bad_class, bad_size, bad_argument, stop_at, too_many_turns, no_progress, and_then, or_refuse, refused_cell}
+use Rattle.tall_local.specs.Pairs.{Pair, judged, misfit, added}
+use Rattle.tall_local.specs.Refusals.{Refusal, undefined, bad_class, bad_size, bad_argument, and_then, or_refuse, refused_cell}
 use Rattle.tall_local.proofs.StopsKept.{value_stops}
 
 abbrev Is : Refusal → Type 0

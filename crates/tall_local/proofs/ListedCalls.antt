@@ -1,11 +1,11 @@
 -- To list the calls of an expression changes nothing of what it gives.
-use Rattle.std.proofs.Common.{◌≡◌, ℕ, List, [], ◌∷◌, ◌++◌, Bool, true, false, refl, ap, sym, ◌∙◌}
+use Rattle.std.proofs.Common.{◌≡◌, ℕ, List, Bool, true, false, refl, ap, ◌∙◌}
 use Rattle.std.specs.Prelude.{if◌then◌else◌, Option, None, Some, Result, Ok, Err}
 use Rattle.tall_grammar.specs.Trees.{Tree, tree, Args, no_args, value_arg, colon_arg}
 use Rattle.tall_grammar.specs.Trees as trees
 use Rattle.tall_local.specs.Arguments.{Argument}
 use Rattle.tall_local.specs.CallsMade.{Call, with_calls, listing, unlisted}
-use Rattle.tall_local.specs.Expressions.{Language, Valued, gives, stops, go_on, answered, Callee, a_function, no_function, a_value, callee_named, callee, handle_in, call_value, argument, value, arguments}
+use Rattle.tall_local.specs.Expressions.{Language, Valued, gives, stops, go_on, answered, Callee, a_function, no_function, a_value, callee, handle_in, call_value, argument, value, arguments}
 use Rattle.tall_local.specs.Refusals.{Refusal}
 
 unlisted_with : {W S C : Type 0} (calls : C) (v : Valued W S) → unlisted (with_calls calls v) ≡ v

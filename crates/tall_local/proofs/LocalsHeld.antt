@@ -1,19 +1,16 @@
 -- The names of a function stand for values that can be held.
-use Rattle.std.proofs.Common.{◌≡◌, ℕ, zero, suc, List, [], ◌∷◌, Bool, true, false}
-use Rattle.std.specs.Prelude.{ℤ, pos, ◌+ℤ◌, ◌==◌, ◌+◌, if◌then◌else◌, length, slice_get, Option, None, Some, Result, Ok, Err}
+use Rattle.std.proofs.Common.{ℕ, List, [], ◌∷◌, Bool, true, false}
+use Rattle.std.specs.Prelude.{if◌then◌else◌, length, slice_get, Option, None, Some, Result, Ok, Err}
 use Rattle.std.specs.Str.{bytes_eq}
-use Rattle.tall_value.specs.declared.operators.Binary.TheVariants as binary
-use Rattle.tall_value.specs.Cells.{Seen, double}
+use Rattle.tall_value.specs.Cells.{Seen}
 use Rattle.tall_grammar.specs.declared.expressions.Infix.{Infix}
-use Rattle.tall_grammar.specs.Refusals.{line_of}
-use Rattle.tall_grammar.specs.Trees.{Tree, Step, assign_step, add_step, if_step, while_step, for_step, Steps, no_steps, and_step, Arms, no_arms, and_arm}
+use Rattle.tall_grammar.specs.Trees.{Tree}
 use Rattle.tall_local.specs.declared.functions.LocalFunction.{LocalFunction}
 use Rattle.tall_local.specs.declared.functions.LocalFunction.TheVariants.{OfValues, HasNext, GetNext, Elsewhere}
 use Rattle.tall_local.specs.declared.functions.ValueFunction.{ValueFunction}
 use Rattle.tall_local.specs.Applications.{application, takes}
-use Rattle.tall_local.specs.Arguments.{Argument, given, colon, function, value_given, Index, rows_at, all_variables_at, index_of}
-use Rattle.tall_local.specs.Calls.{Ran, ends, breaks, and_run, or_break, turn_limit, truth_of, bounds_of, turns_between, assigned, pairs_with, set_pairs, takes_from_iterator, begin_turn, end_turn, where_holds, while_turns, for_turns, local_value, with_local, run_step, run_steps, run_arms}
-use Rattle.tall_local.specs.CallLaws.{state_of_run}
+use Rattle.tall_local.specs.Arguments.{Argument, given, colon, function, value_given, index_of}
+use Rattle.tall_local.specs.Calls.{local_value}
 use Rattle.tall_local.specs.Constants.{constant_named}
 use Rattle.tall_local.specs.Expressions.{Valued, gives, stops, answered}
 use Rattle.tall_local.specs.Lists.{all_of, in_front_of}
@@ -24,9 +21,9 @@ use Rattle.tall_local.specs.MemoryFunctions.{memory_application}
 use Rattle.tall_local.specs.MemoryIndexing.{memory_index, memory_member}
 use Rattle.tall_local.specs.MemoryLaws.{CanBeHeld, OnGiven, OperandsCanBeHeld, HeldCanBe, NamesCanBeHeld, GivesHeld}
 use Rattle.tall_local.specs.MemoryOperators.{memory_prefix, memory_binary, binary_of, unary_of, scalars_fit}
-use Rattle.tall_local.specs.Names.{named, put_name}
-use Rattle.tall_local.specs.Refusals.{Refusal, Stop, undefined, bad_class, bad_argument, too_many_turns, no_progress, stop_at, and_then, or_refuse}
-use Rattle.tall_local.specs.StateLaws.{IsKept, state_after}
+use Rattle.tall_local.specs.Names.{named}
+use Rattle.tall_local.specs.Refusals.{Refusal, undefined, bad_class, bad_argument, and_then, or_refuse}
+use Rattle.tall_local.specs.StateLaws.{IsKept}
 use Rattle.tall_local.proofs.ApplicationOperands.{operands_of}
 use Rattle.tall_local.proofs.MemoryClasses.{unary_held, binary_held, index_held, member_held, application_held}
 use Rattle.tall_local.proofs.ValuesKept.{IsLiteral, ArgumentIs, ArgumentsAre, Gives, value_is}

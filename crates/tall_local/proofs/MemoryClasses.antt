@@ -1,5 +1,5 @@
 -- What is made of values in memory can be held in columns and tables.
-use Rattle.std.proofs.Common.{◌≡◌, ℕ, zero, suc, List, [], ◌∷◌, ◌++◌, Bool, true, false, refl, ap, sym, ◌∙◌, subst, arith}
+use Rattle.std.proofs.Common.{◌≡◌, ℕ, zero, suc, List, [], ◌∷◌, Bool, true, false, refl, ap, sym, ◌∙◌, subst, arith}
 use Rattle.std.proofs.lemmas.List.{length-map}
 use Rattle.std.proofs.lemmas.List.Elements.{All-nil, All-head, All-tail, All-cons, All-take, All-drop}
 use Rattle.std.specs.Prelude.{if◌then◌else◌, ◌==◌, ◌+◌, ◌-◌, length, map, take, drop, Option, None, Some, Result, Ok, Err}
@@ -20,14 +20,13 @@ use Rattle.tall_value.specs.Cells.{Seen, seen_kind, whole, logical, double, text
 use Rattle.tall_value.specs.Classes.{class_of, kind_of}
 use Rattle.tall_value.specs.ClassTables.{unary_kind, binary_kind}
 use Rattle.tall_value.specs.Columns.{HasKind, RowHasKind, cells, numbered}
-use Rattle.tall_value.specs.Distinct as all
 use Rattle.tall_value.specs.Elementwise.{in_front, unary_rows, binary_rows, scalar_rows}
 use Rattle.tall_value.specs.Ends.{first_rows, last_rows}
 use Rattle.tall_value.specs.Filters.{is_true, kept}
 use Rattle.tall_value.specs.FunctionClasses.{method_kind, scan_kind, reduction_kind, class_results, summary_kinds, summary_classes}
 use Rattle.tall_value.specs.GroupKinds.{HaveKinds}
 use Rattle.tall_value.specs.Groups.{group_keys, group_counts, group_data, group_value, group_values, all_values, with_value}
-use Rattle.tall_value.specs.GroupSummary.{summary_columns, value_columns}
+use Rattle.tall_value.specs.GroupSummary.{summary_columns}
 use Rattle.tall_value.specs.Reductions.{reduced}
 use Rattle.tall_value.specs.Scans.{scanned}
 use Rattle.tall_value.specs.Index.{cell_at}
@@ -43,10 +42,10 @@ use Rattle.tall_local.specs.Applications.{Operation, reduce, height, scan, head,
 use Rattle.tall_local.specs.Arguments.{Index, rows_at, all_variables_at}
 use Rattle.tall_local.specs.Memory.{Memory, scalar, column, table, texts, kind_of_column}
 use Rattle.tall_local.specs.MemoryFunctions.{total_result, memory_reduce, memory_height, memory_scan, with_cells, memory_rows, memory_distinct, variable_named, paired, if_distinct, columns_of, summary_result, with_classes, memory_summary, memory_groups, memory_operation, memory_application}
-use Rattle.tall_local.specs.MemoryIndexing.{is_logical, indexed_cell, memory_masked, if_mask, memory_column_index, memory_table_index, memory_index, memory_member}
-use Rattle.tall_local.specs.MemoryLaws.{HasItsClass, HaveTheirClasses, CanBeHeld, OnGiven, OperandsCanBeHeld, classes_in, IsTableOf}
+use Rattle.tall_local.specs.MemoryIndexing.{is_logical, indexed_cell, memory_masked, memory_column_index, memory_table_index, memory_index, memory_member}
+use Rattle.tall_local.specs.MemoryLaws.{HasItsClass, HaveTheirClasses, CanBeHeld, OnGiven, OperandsCanBeHeld, IsTableOf}
 use Rattle.tall_local.specs.MemoryOperators.{with_kind, scalar_result, column_result, memory_unary, if_equal_lengths, memory_binary}
-use Rattle.tall_local.specs.Names.{names_of, each_named}
+use Rattle.tall_local.specs.Names.{each_named}
 use Rattle.tall_local.specs.Refusals.{Refusal, undefined, bad_argument, bad_size, and_then, or_refuse}
 
 abbrev pub Given : Result Memory Refusal → Type 0

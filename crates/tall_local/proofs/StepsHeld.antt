@@ -1,6 +1,6 @@
 -- Statements of a function give its names values that can be held.
-use Rattle.std.proofs.Common.{◌≡◌, ℕ, zero, suc, List, [], ◌∷◌, Bool, true, false}
-use Rattle.std.specs.Prelude.{ℤ, pos, ◌+ℤ◌, ◌==◌, ◌+◌, if◌then◌else◌, Option, None, Some, Result, Ok, Err}
+use Rattle.std.proofs.Common.{ℕ, zero, suc, List, [], ◌∷◌, Bool, true, false}
+use Rattle.std.specs.Prelude.{ℤ, pos, ◌+ℤ◌, ◌==◌, ◌+◌, if◌then◌else◌, Some, Result, Ok, Err}
 use Rattle.std.specs.Str.{bytes_eq}
 use Rattle.tall_value.specs.Cells.{Seen, double}
 use Rattle.tall_grammar.specs.Refusals.{line_of}
@@ -10,8 +10,8 @@ use Rattle.tall_local.specs.CallLaws.{state_of_run}
 use Rattle.tall_local.specs.Expressions.{Valued, gives, stops}
 use Rattle.tall_local.specs.Locals.{Held, store, iterator, no_value, Locals, set_local}
 use Rattle.tall_local.specs.Locals as held
-use Rattle.tall_local.specs.Memory.{Memory, scalar}
-use Rattle.tall_local.specs.MemoryLaws.{CanBeHeld, HeldCanBe, NamesCanBeHeld, GivesHeld}
+use Rattle.tall_local.specs.Memory.{scalar}
+use Rattle.tall_local.specs.MemoryLaws.{HeldCanBe, NamesCanBeHeld, GivesHeld}
 use Rattle.tall_local.specs.Names.{put_name}
 use Rattle.tall_local.specs.Refusals.{Refusal, too_many_turns, no_progress, stop_at}
 use Rattle.tall_local.proofs.LocalsHeld.{expression_held}

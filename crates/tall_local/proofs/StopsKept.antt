@@ -1,11 +1,11 @@
 -- What the refusal of each part of an expression is, the refusal of the whole is.
-use Rattle.std.proofs.Common.{ℕ, List, [], ◌∷◌, Bool, true, false}
+use Rattle.std.proofs.Common.{ℕ, List, Bool, true, false}
 use Rattle.std.specs.Prelude.{if◌then◌else◌, Option, None, Some, Result, Ok, Err}
 use Rattle.tall_grammar.specs.declared.expressions.Prefix.{Prefix}
 use Rattle.tall_grammar.specs.declared.expressions.Infix.{Infix}
 use Rattle.tall_grammar.specs.Trees.{Tree, tree, Args, no_args, value_arg, colon_arg}
 use Rattle.tall_grammar.specs.Trees as trees
-use Rattle.tall_local.specs.Arguments.{Argument, given, function}
+use Rattle.tall_local.specs.Arguments.{Argument, function}
 use Rattle.tall_local.specs.Expressions.{Language, Valued, gives, stops, go_on, answered, Callee, a_function, no_function, a_value, callee, handle_in, call_value, argument, value, arguments}
 use Rattle.tall_local.specs.FunctionFaults.{OnRefused, OnStopped}
 use Rattle.tall_local.specs.Refusals.{Refusal, undefined, stop_at}

@@ -5,7 +5,6 @@ use Rattle.std.proofs.lemmas.Option.{none-some}
 use Rattle.std.proofs.lemmas.List.{length-append}
 use Rattle.std.proofs.lemmas.List.Elements.{All-nil, All-cons, All-append}
 use Rattle.std.specs.Prelude.{◌&&◌, ◌+◌, ◌^◌, length, Option, None, Some, Result, Ok, Err}
-use Rattle.std.specs.List.{All}
 use Rattle.tall_value.specs.Cells.{Seen}
 use Rattle.tall_grammar.specs.Trees.{SeenFunction}
 use Rattle.tall_local.specs.Calls.{CallResult, call_of, behind_pairs}

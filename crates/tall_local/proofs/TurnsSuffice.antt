@@ -73,5 +73,5 @@ pub enough_turns : (key_values : List Seen) (m line : ℕ) (e : Tree) (b : Steps
 enough_turns key_values m line e b s low enough =
     turns_left line e (local_value key_values e) (λ t. run_steps key_values b t) (λ t. takes_on key_values e t) (λ t. steps_go key_values b t) turn_limit m turn_limit refl s low
     (add turn_limit m s.turns enough) (add turn_limit turn_limit s.turns (omega arith)) where
-  add : (a b c : ℕ) → a ≤ b → a ≤ b + c
-  add a b c h = omega (arith, h)
+      add : (a b c : ℕ) → a ≤ b → a ≤ b + c
+      add a b c h = omega (arith, h)

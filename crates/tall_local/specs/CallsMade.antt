@@ -1,6 +1,6 @@
 -- The calls that an expression makes, in their order, where names and forms of expressions say nothing of what was called: the
 -- same language, over states that list them.
-use Rattle.std.specs.Prelude.{ℕ, Bool, List, [], ◌∷◌, ◌++◌}
+use Rattle.std.specs.Prelude.{Bool, List, [], ◌∷◌, ◌++◌}
 use Rattle.tall_grammar.specs.Trees.{Tree, Args}
 use Rattle.tall_local.specs.Arguments.{Argument}
 use Rattle.tall_local.specs.Expressions.{Language, Valued, gives, stops, value, arguments}

@@ -10,7 +10,7 @@ use Rattle.tall_column.specs.Columns.{SeenColumn}
 use Rattle.tall_grammar.specs.declared.expressions.Infix.{Infix}
 use Rattle.tall_grammar.specs.declared.expressions.Infix.TheVariants.{Or, And, Eq, Ne, Lt, Le, Gt, Ge, Add, Sub, DotMul, DotDiv, Mul, Div}
 use Rattle.tall_grammar.specs.declared.expressions.Prefix.TheVariants.{Minus, Plus, Not}
-use Rattle.tall_local.specs.Applications.{Application, to_one, head, tail, application}
+use Rattle.tall_local.specs.Applications.{application}
 use Rattle.tall_local.specs.Functions.{value_functions}
 use Rattle.tall_local.specs.Memory.{Memory, scalar, column, scalar_in}
 use Rattle.tall_local.specs.MemoryFunctions.{memory_application}
@@ -18,8 +18,6 @@ use Rattle.tall_local.specs.MemoryOperators.{memory_unary, memory_binary, memory
 use Rattle.tall_local.specs.Names.{named}
 use Rattle.tall_local.specs.Printing.{class_name}
 use Rattle.tall_local.specs.Refusals.{Refusal, failed}
-use Rattle.tall_local.specs.declared.functions.ValueFunction.{ValueFunction}
-use Rattle.tall_local.specs.declared.functions.ValueFunction.TheVariants as function
 
 -- a call of a function by its name
 abbrev called : List Memory → String → Option (Result Memory Refusal)

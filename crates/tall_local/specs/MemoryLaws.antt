@@ -7,7 +7,6 @@ use Rattle.tall_value.specs.Classes.{kind_of}
 use Rattle.tall_value.specs.Columns.{HasKind}
 use Rattle.tall_column.specs.Columns.{SeenColumn}
 use Rattle.tall_column.specs.Tables.{height_of, HasHeight}
-use Rattle.tall_local.specs.Arguments.{Index, rows_at, all_variables_at}
 use Rattle.tall_local.specs.Applications.{Application, constant, to_one, to_two}
 use Rattle.tall_local.specs.Locals.{Held, value, store, iterator, no_value, Locals}
 use Rattle.tall_local.specs.Expressions.{Valued, gives, stops}
