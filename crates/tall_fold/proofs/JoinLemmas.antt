@@ -43,7 +43,7 @@ added_if true q x y = refl
 added_if false true x y = refl
 added_if false false x y = refl
 
-total_unless_nan-append : (cs ds : List Seen) → added (total_unless_nan cs) (total_unless_nan ds) ≡ total_unless_nan (cs ++ ds)
+pub total_unless_nan-append : (cs ds : List Seen) → added (total_unless_nan cs) (total_unless_nan ds) ≡ total_unless_nan (cs ++ ds)
 total_unless_nan-append cs ds =
     added_if (list_any is_nan cs) (list_any is_nan ds) (total (filter_map amount cs)) (total (filter_map amount ds))
     ∙ ap (λ (n : ℤ). if list_any is_nan cs || list_any is_nan ds then None else Some n)

@@ -1,3 +1,4 @@
-pub mod PickLaws
 pub mod Forms
+pub mod PickLaws
 pub mod Summaries
+pub mod Carries

@@ -1,11 +1,17 @@
 //! Reductions and scans of columns that are cut into blocks, and the first and the last rows.
 #![tactic(auto)]
 
+mod carried;
+mod carries;
 mod kept;
 mod pick;
 mod results;
+mod running;
+mod scans;
 mod slices;
 mod summary;
 mod values;
 
+pub use carries::Carry;
+pub use scans::carry;
 pub use summary::{Summary, summarise};

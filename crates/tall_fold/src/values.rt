@@ -18,7 +18,7 @@ use tall_int::Whole;
 use tall_value::Reduction;
 
 /// Of values of an integer class.
-fn of_integers<I: Integer>(op: Reduction, rows: &[I]) -> Kept
+pub(crate) fn of_integers<I: Integer>(op: Reduction, rows: &[I]) -> Kept
     requires takes { IsOk (reduction_kind op (integer_kind I.KIND)) }
     requires few { length rows.now < 2 ^ 40 }
     ensures { IsKeptOf op (integer_kind I.KIND) (map (λ x. whole I.KIND (I.number x)) rows.now) result }
@@ -48,7 +48,7 @@ fn total_of_logicals(rows: &[bool]) -> ExactSum
 }
 
 /// Of logicals.
-fn of_logicals(op: Reduction, rows: &[bool]) -> Kept
+pub(crate) fn of_logicals(op: Reduction, rows: &[bool]) -> Kept
     requires takes { IsOk (reduction_kind op logical_kind) }
     requires few { length rows.now < 2 ^ 40 }
     ensures { IsKeptOf op logical_kind (map (λ b. logical b) rows.now) result }
@@ -65,7 +65,7 @@ fn of_logicals(op: Reduction, rows: &[bool]) -> Kept
 }
 
 /// Of doubles.
-fn of_doubles(op: Reduction, rows: &[Whole]) -> Kept
+pub(crate) fn of_doubles(op: Reduction, rows: &[Whole]) -> Kept
     requires takes { IsOk (reduction_kind op double_kind) }
     requires few { length rows.now < 2 ^ 40 }
     ensures { IsKeptOf op double_kind (map (λ d. double d) rows.now) result }
