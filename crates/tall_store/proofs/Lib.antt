@@ -16,3 +16,4 @@ pub mod Openings
 pub mod Asked
 pub mod Told
 pub mod FileLemmas
+pub mod FieldReaders

@@ -2,19 +2,22 @@
 ghost use Rattle.std.specs.Prelude.{◌≡◌, ◌<◌, ◌≤◌, ◌+◌, ◌^◌, ◌++◌, ◌∷◌, [], length, IfErr, IfOk, MatchResult, None};
 ghost use Rattle.tall_column.specs.Tables.{FitsHeight, HasHeight, column_named};
 ghost use Rattle.tall_store.specs.ReadingOrder.{earlier_of, first_reading_fault};
-ghost use Rattle.tall_store.specs.Stores.{name_at};
+ghost use Rattle.tall_store.specs.declared.format.Format.TheVariants as format;
+ghost use Rattle.tall_store.specs.Stores.{format_at, name_at};
 ghost use Rattle.tall_store.specs.Stored.{unless_fault, variable_of, variables_of};
 ghost use Rattle.tall_store.specs.Reads.{Answers, ReadsColumn, column_faults, first_of_columns, first_width_fault};
 ghost use Rattle.tall_store.specs.Parts.{part_records};
 ghost use Rattle.tall_store.specs.Blocks.{block_table};
 
 use crate::faults::{ColumnsFault, ReadingFault, ReadingKind};
+use crate::format::Format;
 use crate::order::earlier;
 use crate::part::Part;
 use crate::store::Datastore;
-use crate::values::field_cell;
+use crate::values::{DoubleFields, FieldReader, IntegerFields, read_text};
 use tall_column::{Column, Table};
 use tall_cut::Records;
+use tall_value::{Cell, Class};
 
 // The first record with too many fields.
 #[tactic(auto, using(crate::proofs::PartRows::rest_start, crate::proofs::PartRows::rest_end, crate::proofs::PartRows::width_passed, crate::proofs::PartRows::width_found))]
@@ -30,18 +33,47 @@ fn first_wide(store: &Datastore, part: &Part<'_>) -> Option<ReadingFault>
 }
 
 #[tactic(auto, using(crate::proofs::PartRows::rest_start, crate::proofs::PartRows::column_read))]
-// The column of the variable at a place among all, or the first fault of its fields.
-fn read_column(store: &Datastore, part: &Part<'_>, place: usize) -> Result<Column, ColumnsFault>
+// The column of a variable of a numeric format, by its place among all, or the first fault of its fields: one loop for each
+// format.
+fn read_values<R: FieldReader>(
+    store: &Datastore,
+    part: &Part<'_>,
+    place: usize,
+) -> Result<Column, ColumnsFault>
     requires few { length store.now.names < 2 ^ 20 }
     requires place { place < length store.now.names }
+    requires format { R.format ≡ format_at store.now place }
     ensures { ReadsColumn store.now (part_records part.now) place result }
 {
-    let format = store.format(place);
-    let mut column = Column::new(store.alloc(), format.class());
+    let missing = store.missing();
+    let Ok(mut values) = Vec::with_capacity(store.alloc(), part.rows) else {
+        return Err(ColumnsFault::Memory);
+    };
     for i in 0..part.rows {
-        match field_cell(format, store.missing(), part.field(i, place)) {
-            Ok(cell) => {
-                if column.push(&cell).is_err() {
+        match R::read(missing, part.field(i, place)) {
+            Ok(value) => values.push_reserved(value),
+            Err(kind) => {
+                let fault = part.fault(kind, i, place as u32 + 1);
+                return Err(ColumnsFault::Reading(fault));
+            }
+        }
+    }
+    Ok(Column::of(store.alloc(), values))
+}
+
+#[tactic(auto, using(crate::proofs::PartRows::rest_start, crate::proofs::PartRows::column_read))]
+// The column of a variable of the format `%q`, by its place among all, or the first fault of its fields.
+fn read_texts(store: &Datastore, part: &Part<'_>, place: usize) -> Result<Column, ColumnsFault>
+    requires few { length store.now.names < 2 ^ 20 }
+    requires place { place < length store.now.names }
+    requires format { format_at store.now place ≡ format.Text }
+    ensures { ReadsColumn store.now (part_records part.now) place result }
+{
+    let mut column = Column::new(store.alloc(), Class::Text);
+    for i in 0..part.rows {
+        match read_text(part.field(i, place)) {
+            Ok(text) => {
+                if column.push(&Cell::Text(text)).is_err() {
                     return Err(ColumnsFault::Memory);
                 }
             }
@@ -52,6 +84,26 @@ fn read_column(store: &Datastore, part: &Part<'_>, place: usize) -> Result<Colum
         }
     }
     Ok(column)
+}
+
+// The column of the variable at a place among all, or the first fault of its fields.
+fn read_column(store: &Datastore, part: &Part<'_>, place: usize) -> Result<Column, ColumnsFault>
+    requires few { length store.now.names < 2 ^ 20 }
+    requires place { place < length store.now.names }
+    ensures { ReadsColumn store.now (part_records part.now) place result }
+{
+    match store.format(place) {
+        Format::Int8 => read_values::<IntegerFields<i8>>(store, part, place),
+        Format::Int16 => read_values::<IntegerFields<i16>>(store, part, place),
+        Format::Int32 => read_values::<IntegerFields<i32>>(store, part, place),
+        Format::Int64 => read_values::<IntegerFields<i64>>(store, part, place),
+        Format::Uint8 => read_values::<IntegerFields<u8>>(store, part, place),
+        Format::Uint16 => read_values::<IntegerFields<u16>>(store, part, place),
+        Format::Uint32 => read_values::<IntegerFields<u32>>(store, part, place),
+        Format::Uint64 => read_values::<IntegerFields<u64>>(store, part, place),
+        Format::Double => read_values::<DoubleFields>(store, part, place),
+        Format::Text => read_texts(store, part, place),
+    }
 }
 
 // Adds a column under a name to a table.

@@ -1,19 +1,20 @@
 //! The values of fields.
-ghost use Rattle.std.specs.Prelude.{◌≡◌, IfOk};
+ghost use Rattle.std.specs.Prelude.{◌≡◌, refl};
 ghost use Rattle.std.specs.List.{list_any};
 ghost use Rattle.std.specs.Str.{bytes_eq};
 ghost use Rattle.std.specs.Result.{result_map_both};
-ghost use Rattle.tall_value.specs.Cells.{seen};
-ghost use Rattle.tall_column.specs.Columns.{class_of_cell};
-ghost use Rattle.tall_store.specs.Formats.{class_of_format};
+ghost use Rattle.tall_store.specs.declared.format.Format.{Format};
+ghost use Rattle.tall_store.specs.declared.format.Format.TheVariants as format;
+ghost use Rattle.tall_store.specs.Formats.{class_of_format, class_of_integers, integer_format};
 ghost use Rattle.tall_store.specs.Fields.{double_number, field_value, integer_number, is_missing, number_fault, utf8_text};
 
 use crate::faults::ReadingKind;
-use crate::format::Format;
+use std::marker::PhantomData;
 use std::str::from_utf8;
+use tall_column::{Integer, Stored};
 use tall_int::{IntClass, Whole, WholeFault};
 use tall_num::{read_field, to_class, to_whole, trim_blanks};
-use tall_value::{Cell, Text};
+use tall_value::Text;
 
 /// Whether one of the spellings is these bytes.
 fn is_spelling(missing: &[Text], bytes: &[u8]) -> bool
@@ -73,7 +74,7 @@ fn read_double(missing: &[Text], bytes: &[u8]) -> Result<Whole, ReadingKind>
 
 /// A field as a text.
 #[tactic(auto, using(crate::proofs::Utf8Fields::text_of_utf8, crate::proofs::Utf8Fields::text_of_other))]
-fn read_text(bytes: &[u8]) -> Result<&str, ReadingKind>
+pub(crate) fn read_text(bytes: &[u8]) -> Result<&str, ReadingKind>
     ensures { result_map_both (λ text. text.now) (λ e. e) result ≡ utf8_text bytes.now }
 {
     match from_utf8(bytes) {
@@ -82,25 +83,47 @@ fn read_text(bytes: &[u8]) -> Result<&str, ReadingKind>
     }
 }
 
-/// The value of a field in a format, as a cell of the format's class; a text lends the field's bytes.
-pub(crate) fn field_cell<'a>(
-    format: Format,
-    missing: &[Text],
-    bytes: &'a [u8],
-) -> Result<Cell<'a>, ReadingKind>
-    ensures value { result_map_both (λ cell. seen cell) (λ e. e) result ≡ field_value format missing.now bytes.now }
-    ensures class { IfOk result (λ cell. class_of_cell (seen cell) ≡ class_of_format format) }
-{
-    match format {
-        Format::Int8 => Ok(Cell::I8(read_integer(missing, bytes)?)),
-        Format::Int16 => Ok(Cell::I16(read_integer(missing, bytes)?)),
-        Format::Int32 => Ok(Cell::I32(read_integer(missing, bytes)?)),
-        Format::Int64 => Ok(Cell::I64(read_integer(missing, bytes)?)),
-        Format::Uint8 => Ok(Cell::U8(read_integer(missing, bytes)?)),
-        Format::Uint16 => Ok(Cell::U16(read_integer(missing, bytes)?)),
-        Format::Uint32 => Ok(Cell::U32(read_integer(missing, bytes)?)),
-        Format::Uint64 => Ok(Cell::U64(read_integer(missing, bytes)?)),
-        Format::Double => Ok(Cell::Double(read_double(missing, bytes)?)),
-        Format::Text => Ok(Cell::Text(read_text(bytes)?)),
+/// How the fields of a format are read, of all formats but `%q`.
+pub(crate) trait FieldReader {
+    type Out: Stored;
+
+    ghost format: { Format };
+
+    /// The value of a field.
+    fn read(missing: &[Text], bytes: &[u8]) -> Result<Self::Out, ReadingKind>
+        ensures { result_map_both Self.Out.shown (λ e. e) result ≡ field_value format missing.now bytes.now };
+
+    ghost in_class: { Self.Out.class ≡ class_of_format format };
+}
+
+/// The integer formats.
+pub(crate) struct IntegerFields<I> {
+    class: PhantomData<I>,
+}
+
+impl<I: Integer> FieldReader for IntegerFields<I> {
+    type Out = I;
+
+    ghost format = { integer_format I.KIND };
+
+    fn read(missing: &[Text], bytes: &[u8]) -> Result<I, ReadingKind> {
+        read_integer(missing, bytes)
     }
+
+    ghost in_class = { class_of_integers I.KIND };
+}
+
+/// `%f`
+pub(crate) struct DoubleFields;
+
+impl FieldReader for DoubleFields {
+    type Out = Whole;
+
+    ghost format = { format.Double };
+
+    fn read(missing: &[Text], bytes: &[u8]) -> Result<Whole, ReadingKind> {
+        read_double(missing, bytes)
+    }
+
+    ghost in_class = { refl };
 }
