@@ -1,5 +1,5 @@
 -- The native sum over blocks, from what was left of the records to what is left.
-use Rattle.std.proofs.Common.{ℕ, ◌+◌, ◌≡◌, ◌∙◌, length, drop, arith, List, [], ◌∷◌, ◌++◌, sym, ap, refl}
+use Rattle.std.proofs.Common.{ℕ, ◌+◌, ◌≡◌, ◌∙◌, length, map, arith, List, [], ◌∷◌, ◌++◌, sym, ap, refl}
 use Rattle.std.specs.Prelude.{ℤ, pos, ◌+ℤ◌, Option, Some, None, IfSome, Result, Ok, Err, ⊤}
 use Rattle.std.specs.List.{filter_map, flat_map}
 use Rattle.std.specs.Option.{option_or}
@@ -9,7 +9,7 @@ use Rattle.std.proofs.lemmas.List.Elements.{filter_map-append}
 use Rattle.tall_int.specs.Sums.{clamped_sum}
 use Rattle.tall_int.specs.Numbers.{nearest}
 use Rattle.tall_value.specs.declared.class.IntKind.TheVariants.{Int16}
-use Rattle.tall_value.specs.Cells.{Seen, amount}
+use Rattle.tall_value.specs.Cells.{Seen, amount, whole}
 use Rattle.tall_value.specs.Classes.{greatest, least}
 use Rattle.tall_cut.specs.Rows.{Fields, TakesMany, NoneLeft}
 use Rattle.tall_store.specs.declared.faults.ReadingFault.{ReadingFault}
@@ -20,8 +20,6 @@ use Rattle.tall_store.specs.Stored.{cells_at, record_faults, unless_fault, value
 use Rattle.tall_store.specs.Blocks.{Block, first_block_fault}
 use Rattle.tall_store.proofs.Prefixes.{first_before}
 use Rattle.tall_store.proofs.Limits.{faults_after, faults_below, numbered_append, rows_apart}
-use Rattle.tall_column.proofs.Lists.{drop_get}
-use Rattle.std.specs.List.{slice_get}
 use Rattle.tall_session.specs.Data.{rest_outcome, sum_from, sum_on}
 use Rattle.tall_session.specs.Evaluation.{Agrees}
 use Rattle.tall_session.specs.declared.outcome.Outcome.{Outcome}
@@ -59,11 +57,13 @@ sum_append start cs ds =
     ap (clamped_sum (least Int16) (greatest Int16) start) (filter_map-append amount cs ds)
     ∙ clamped_sum-append (least Int16) (greatest Int16) start (filter_map amount cs) (filter_map amount ds)
 
--- one row more of a column: the sum after it
-pub row_step : (start sum next : ℤ) (row : ℕ) (cs : List Seen) (c : Seen) → slice_get cs row ≡ Some c → next ≡ sum_on sum (c ∷ [])
-    → sum_on sum (drop row cs) ≡ sum_on start cs → sum_on next (drop (row + 1) cs) ≡ sum_on start cs
-row_step start sum next row cs c here e before =
-    ap (λ m. sum_on m (drop (row + 1) cs)) e ∙ sym (sum_append sum (c ∷ []) (drop (row + 1) cs)) ∙ sym (ap (sum_on sum) (drop_get cs row c here)) ∙ before
+-- the sum of the numbers of a column
+amounts_of : (ns : List ℤ) → map (λ n. n) ns ≡ filter_map amount (map (λ n. whole Int16 n) ns)
+amounts_of [] = refl
+amounts_of (n ∷ ns) = ap (λ rest. n ∷ rest) (amounts_of ns)
+
+pub numbers_sum : (start : ℤ) (ns : List ℤ) → clamped_sum (least Int16) (greatest Int16) start (map (λ n. n) ns) ≡ sum_on start (map (λ n. whole Int16 n) ns)
+numbers_sum start ns = ap (clamped_sum (least Int16) (greatest Int16) start) (amounts_of ns)
 
 -- a block and what follows it: the sum goes on, or its fault stands
 after_block : SeenStore → ℕ → Result ℤ ReadingFault → ℕ → List Fields → Result ℤ ReadingFault
