@@ -1,8 +1,10 @@
 -- One file of the walk: its header, and what is left behind it.
 use Rattle.std.proofs.Common.{ℕ, zero, suc, ◌≡◌, ◌<◌, ◌≤◌, ◌∙◌, ◌+◌, ◌^◌, List, [], ◌∷◌, ◌++◌, length, drop, true, false, refl, sym, ap, subst, arith, get_or, Bool}
-use Rattle.std.specs.Prelude.{Option, Some, None, IfSome, ◌&&◌, not, if◌then◌else◌}
+use Rattle.std.specs.Prelude.{Option, Some, None, IfSome, ◌&&◌, not, if◌then◌else◌, option_map}
 use Rattle.std.proofs.lemmas.List.{drop_more, length-append}
 use Rattle.tall_outside.specs.Shelf.{Files, file_in}
+use Rattle.tall_cut.specs.Asked.{size_in}
+use Rattle.tall_cut.specs.Feed.{counted}
 use Rattle.tall_cut.specs.Rows.{Fields, NoneLeft, TakesMany}
 use Rattle.tall_value.specs.declared.faults.ReadingKind.TheVariants.{HeaderDiffers}
 use Rattle.tall_store.specs.declared.file_end.FileEnd.{FileEnd}
@@ -10,7 +12,7 @@ use Rattle.tall_store.specs.declared.file_end.FileEnd.TheVariants.{Whole, Readin
 use Rattle.tall_store.specs.Headers.{begins_with, is_one_record}
 use Rattle.tall_store.specs.Stores.{SeenStore}
 use Rattle.tall_store.specs.Walk.{WalkedFile, fault_when, walk_from}
-use Rattle.tall_store.specs.FileEnds.{ChecksHeader, FilesFollow, IsCause, data_of, fault_at, header_faults, name_of_file, walked_file}
+use Rattle.tall_store.specs.FileEnds.{ChecksHeader, FilesFollow, IsCause, IsShort, OpensFile, fault_at}
 
 -- ---- the walk, file by file
 
@@ -86,3 +88,48 @@ too_many_left (Some rows) (Some rest) block count row t c l =
 pub too_many_ended : (left : Option (List Fields)) (row : ℕ) → 2 ^ 40 < row → IfSome left (λ rows. 2 ^ 40 < row + length rows)
 too_many_ended None row l = tt
 too_many_ended (Some rows) row l = omega (arith, l)
+
+-- ---- from what was left to what is left, by the row that comes next
+
+-- as many records as rows were taken
+abbrev pub Follows : Option (List Fields) → Option (List Fields) → ℕ → ℕ → Type 0
+Follows None left first row = Unit {0}
+Follows (Some all) None first row = ⊥
+Follows (Some all) (Some left) first row = first + length all ≡ row + length left
+
+pub follows_first : (left : Option (List Fields)) (first row : ℕ) → row ≡ first → Follows left left first row
+follows_first None first row e = tt
+follows_first (Some all) first row e = ap (λ n. n + length all) (sym e)
+
+pub follows_block : (all left rest : Option (List Fields)) (block : List Fields) (first row next count : ℕ) → Follows all left first row → TakesMany left block rest
+    → count ≡ length block → next ≡ row + count → Follows all rest first next
+follows_block None left rest block first row next count f t c n = tt
+follows_block (Some all) None rest block first row next count f t c n = absurd f
+follows_block (Some all) (Some left) None block first row next count f t c n = absurd t
+follows_block (Some all) (Some left) (Some rest) block first row next count f t c n =
+    let long : length left ≡ length block + length rest = ap length t ∙ length-append block rest in omega (arith, long, c, n, f)
+
+pub follows_end : (all left : Option (List Fields)) (first row count : ℕ) → Follows all left first row → NoneLeft left → first + count ≡ row → IfSome all (λ records. count ≡ length records)
+follows_end None left first row count f n e = tt
+follows_end (Some all) None first row count f n e = absurd f
+follows_end (Some all) (Some left) first row count f n e =
+    let none : length left ≡ 0 = ap length n in omega (arith, none, e, f)
+
+-- ---- what was read whole is short
+
+pub short_from_size : (files : Files) (name : List ℕ) → IfSome (size_in (Some files) name) (λ n. counted n ≤ 2 ^ 50) → IsShort files name
+short_from_size files name h = by (file_in files name) h
+  where
+    by : (bytes : Option (List ℕ)) → IfSome (option_map length bytes) (λ n. counted n ≤ 2 ^ 50) → IfSome bytes (λ xs. length xs ≤ 2 ^ 50)
+    by None h = tt
+    by (Some xs) h = omega (arith, h)
+
+-- so all of its records were counted
+pub all_counted : (held : Option Files) (size : Option ℕ) (name : List ℕ) (walked : Files → WalkedFile) (left : Option (List Fields)) (n : ℕ)
+    → size_in held name ≡ size → IfSome size (λ bytes. counted bytes ≤ 2 ^ 50)
+    → IfSome held (λ files. IsShort files name → OpensFile (walked files) left) → IfSome left (λ records. n ≡ length records)
+    → IfSome held (λ files. n ≡ length (walked files).records)
+all_counted None size name walked left n e h told all = tt
+all_counted (Some files) size name walked left n e h told all =
+    let short : IsShort files name = short_from_size files name (subst (λ (s : Option ℕ). IfSome s (λ bytes. counted bytes ≤ 2 ^ 50)) (sym e) h) in
+    subst (λ (l : Option (List Fields)). IfSome l (λ records. n ≡ length records)) (told short).1 all

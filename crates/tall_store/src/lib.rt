@@ -5,6 +5,8 @@
 mod cases;
 mod choices;
 mod columns;
+#[cfg(test)]
+mod counting;
 mod faults;
 mod file_end;
 mod file_rows;

@@ -1,17 +1,21 @@
 //! What datastores give of small files, against values that were written by hand.
 
-ghost use Rattle.std.specs.Prelude.{◌<◌, ◌^◌, [], get_or, length};
+ghost use Rattle.std.specs.Prelude.{◌≡◌, ◌<◌, ◌^◌, length};
 ghost use Rattle.tall_cut.specs.Asked.{Asks};
+ghost use Rattle.tall_store.specs.FileEnds.{name_of_file};
 
 use crate::cases::CALLS;
-use crate::{ColumnsFault, Datastore, Format, Options, ReadingFault, StoreFault};
+use crate::counting::count_records;
+use crate::{
+    ColumnsFault, Datastore, FileEnd, FileRows, FileStep, Format, Options, ReadingFault, StoreFault,
+};
 use std::alloc::{AllocError, Global};
 use std::fmt::Write;
 use std::marker::Brand;
 use std::process::Abort;
 use std::test::Fail;
 use tall_column::Table;
-use tall_cut::{Cause, Cutter, FeedFault, Lent, Next, OpenedFile, ReadSize, Records, open_feed};
+use tall_cut::{Lent, OpenedFile, ReadSize, Records};
 use tall_outside::{MemShelf, Shelf, has_distinct_names};
 use tall_value::{Cell, Class, Content};
 
@@ -55,6 +59,8 @@ fn set(alloc: Global, options: &mut Options, name: &str, value: &str) -> Result<
             Ok(rows) => ReadSize::Rows(rows),
             Err(_) => ReadSize::File,
         };
+    } else if name == "files" {
+        options.files = strings(alloc, value)?;
     } else if name == "select" {
         options.selected = Some(strings(alloc, value)?);
     } else {
@@ -144,40 +150,39 @@ fn write_block(
     Ok(true)
 }
 
-/// Writes the blocks of a file and moves the row past them.
+/// Writes how the reading of a file ended, and moves the row past its records.
+fn write_end(text: &mut String, end: FileEnd, row: &mut u64) -> Result<(), AllocError> {
+    match end {
+        FileEnd::Whole(records) => *row = row.saturating_add(records),
+        FileEnd::Reading(fault) => write_fault(text, fault)?,
+        other => writeln!(text, "{other:?}")?,
+    }
+    Ok(())
+}
+
+/// Writes the blocks of a file; how it ended, or none where a block has a fault.
 fn write_blocks<'s, S: Shelf, K: OpenedFile>(
+    alloc: Global,
     text: &mut String,
     store: &Datastore,
-    cutter: &mut Cutter<'s, S, K>,
-    file: u32,
-    row: &mut u64,
-) -> Result<bool, AllocError> {
-    if store.has_header() {
-        match cutter.first_record() {
-            Next::Block(first) => {
-                if !store.same_header(&first) {
-                    writeln!(text, "HeaderDiffers at file {file} row {row}")?;
-                    return Ok(false);
-                }
-            }
-            _ => {
-                writeln!(text, "HeaderDiffers at file {file} row {row}")?;
-                return Ok(false);
-            }
-        }
-    }
+    rows: &mut FileRows<'s, S, K>,
+) -> Result<Option<FileEnd>, AllocError>
+    requires { K.limit ≡ 2 ^ 50 }
+{
+    let mut records = Records::new(alloc);
     for _turn in 0..100u32 {
-        match cutter.next_block() {
-            Next::Block(block) => {
-                if !write_block(text, store, &block, file, *row)? {
-                    return Ok(false);
+        match rows.next(1) {
+            FileStep::Block(block) => {
+                records.parse(alloc, &block.raw)?;
+                if !write_block(text, store, &records, block.file, block.row)? {
+                    return Ok(None);
                 }
-                *row = row.saturating_add(block.len() as u64);
+                rows.give_back(block.raw);
             }
-            _ => return Ok(true),
+            FileStep::Ended(end) => return Ok(Some(end)),
         }
     }
-    Ok(false)
+    Ok(None)
 }
 
 /// Writes the rows of a file of a lent shelf; the shelf comes back.
@@ -190,21 +195,18 @@ fn write_file<'s, S: Shelf, K: OpenedFile>(
     text: &mut String,
 ) -> Lent<'s, S>
     requires file { file < length store.now.files }
-    requires asks { Asks S.Shelf K.OpenedFile lent.shelf.ghost_name lent.shelf.now (get_or store.now.files file []) (2 ^ 50) }
+    requires asks { Asks S.Shelf K.OpenedFile lent.shelf.ghost_name lent.shelf.now (name_of_file store.now file) (2 ^ 50) }
 {
-    match open_feed::<S, K>(lent, store.file_name(file), 1 << 50) {
-        Ok(feed) => {
-            let mut cutter: Cutter<'s, S, K> = Cutter::new(
-                alloc,
-                feed,
-                store.delimiter(),
-                store.size(),
-            );
-            let _ = write_blocks(text, store, &mut cutter, file, row);
-            cutter.into_lent()
+    match FileRows::<'s, S, K>::open(store, lent, file, *row) {
+        Ok(rows) => {
+            let mut rows = rows;
+            if let Ok(Some(end)) = write_blocks(alloc, text, store, &mut rows) {
+                let _ = write_end(text, end, row);
+            }
+            rows.into_lent()
         }
         Err(refused) => {
-            let _ = writeln!(text, "NoFile at file {file} row {row}");
+            let _ = write_end(text, refused.end, row);
             refused.lent
         }
     }
@@ -301,6 +303,27 @@ fn all_give(
 #[test]
 fn small_files_are_read(rt: HostRuntime) -> Result<(), Fail> {
     all_give(&rt, rt.alloc(), &CALLS)?;
+    Ok(())
+}
+
+#[test]
+fn files_follow_each_other(rt: HostRuntime) -> Result<(), Fail> {
+    let files: [(&str, &[u8]); 3] = [
+        ("a.csv", b"x\n1\n2\n3\n"),
+        ("b.csv", b"x\n4\n"),
+        ("c.csv", b"y\n5\n"),
+    ];
+    let plan = "files a.csv,b.csv,c.csv,d.csv|size 2|formats d8";
+    let text = text_of(&rt, rt.alloc(), &files, plan)?;
+    let mut shelf = shelf_of(&rt, rt.alloc(), &files)?;
+    let store = changed(open_plan(&rt, rt.alloc(), &mut shelf, plan)?)?;
+    assert!(rt; store.file_count() > 1);
+    let end = count_records(&mut shelf, &store, 0, 1);
+    assert_eq!(rt; end, FileEnd::Whole(3));
+    assert_eq!(rt;
+        text.as_str(),
+        "x:Int8 \n 1\n 2\n 3\n 4\nHeaderDiffers at file 2 row 5 column 0\nNoFile at file 3 row 5 column 0\n"
+    );
     Ok(())
 }
 
