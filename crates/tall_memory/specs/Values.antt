@@ -39,3 +39,15 @@ Gives want (Err fault.BadArgument) = want ≡ Err bad_argument
 Gives want (Err fault.BadIndex) = want ≡ Err bad_index
 Gives want (Err (fault.Data row kind)) = want ≡ Err (failed row kind)
 Gives want (Err fault.Memory) = Unit {0}
+
+-- the same of a value that is lent
+abbrev pub Lends : Result Memory Refusal → Result MemoryRef MemoryFault → Type 0
+Lends want (Ok v) = want ≡ Ok (ref_seen v)
+Lends want (Err (fault.Undefined name)) = want ≡ Err (undefined name)
+Lends want (Err fault.MixedClass) = want ≡ Err mixed_class
+Lends want (Err fault.BadClass) = want ≡ Err bad_class
+Lends want (Err fault.BadSize) = want ≡ Err bad_size
+Lends want (Err fault.BadArgument) = want ≡ Err bad_argument
+Lends want (Err fault.BadIndex) = want ≡ Err bad_index
+Lends want (Err (fault.Data row kind)) = want ≡ Err (failed row kind)
+Lends want (Err fault.Memory) = Unit {0}

@@ -5,9 +5,11 @@
 #![tactic(auto)]
 
 mod faults;
+mod indexing;
 mod operators;
 mod values;
 
 pub use faults::MemoryFault;
+pub use indexing::{Index, constant_named, memory_index, memory_member};
 pub use operators::{memory_binary, memory_infix, memory_prefix, memory_unary};
 pub use values::{MemoryRef, MemoryValue};
