@@ -1,15 +1,17 @@
 -- Tables made variable by variable.
 use Rattle.std.proofs.Common.{◌≡◌, ◌<◌, ◌+◌, ◌∙◌, ℕ, zero, suc, refl, sym, ap, arith, length, take, get_or}
-use Rattle.std.specs.Prelude.{Bool, true, false, if◌then◌else◌, List, [], ◌∷◌, ◌++◌, Option, None, Some, option_map, slice_get}
+use Rattle.std.specs.Prelude.{◌-◌, min, Bool, true, false, if◌then◌else◌, List, [], ◌∷◌, ◌++◌, Option, None, Some, option_map, slice_get}
 use Rattle.std.specs.List.{AllPairs}
 use Rattle.std.specs.Str.{bytes_eq}
-use Rattle.std.proofs.lemmas.List.{get_or-take, length-take-le}
+use Rattle.std.proofs.lemmas.List.{get_or-take, length-drop, length-take, length-take-le}
 use Rattle.std.proofs.lemmas.Option.{none-some}
 use Rattle.tall_value.specs.Cells.{Seen}
 use Rattle.tall_value.specs.Filters.{is_true, kept}
 use Rattle.tall_column.specs.Columns.{SeenColumn, rows_kept}
 use Rattle.tall_column.specs.Tables.{AreApart, FitsHeight, HasHeight, IsTable, column_named, height_of}
+use Rattle.tall_local.specs.MemoryFunctions.{with_cells}
 use Rattle.tall_local.specs.Names.{each_named}
+use Rattle.tall_memory.specs.Ends.{end_rows}
 
 abbrev Entries : Type 0
 Entries = List (List ℕ × SeenColumn)
@@ -79,3 +81,10 @@ one_more f (e ∷ t) zero name x named at =
 one_more f (e ∷ t) (suc i) name x named at =
     let more : suc i + 1 ≡ suc (i + 1) = omega arith in
     ap (λ es. (e.0, f e.1) ∷ es) (one_more f t i name x named at) ∙ ap (λ n. each_named f (take n (e ∷ t))) (sym more)
+
+end_lengths : (last : Bool) (k : ℕ) (cs ds : List Seen) → length cs ≡ length ds → length (end_rows last k cs) ≡ length (end_rows last k ds)
+end_lengths false k cs ds h = length-take k cs ∙ ap (min k) h ∙ sym (length-take k ds)
+end_lengths true k cs ds h = length-drop (length cs - k) cs ∙ ap (λ n. n - (n - k)) h ∙ sym (length-drop (length ds - k) ds)
+
+pub end_rows_keep : (last : Bool) (k : ℕ) → KeepsLengths (with_cells (end_rows last k))
+end_rows_keep last k x y h = end_lengths last k x.cells y.cells h

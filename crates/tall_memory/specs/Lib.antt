@@ -1,3 +1,4 @@
 pub mod Values
 pub mod Columns
 pub mod Indexes
+pub mod Ends

@@ -4,6 +4,8 @@
 //! or the refusal. Operands are lent, so no function takes a value away.
 #![tactic(auto)]
 
+mod arguments;
+mod ends;
 mod faults;
 mod indexing;
 mod operators;
