@@ -6,3 +6,4 @@ pub mod SortLemmas
 pub mod UniqueLemmas
 pub mod PlacedLemmas
 pub mod NativeLemmas
+pub mod PartLemmas

@@ -70,9 +70,9 @@ pub(crate) fn high_of(kind: Kind) -> i128
 pub(crate) fn extend<S: GroupState>(states: &mut Vec<S>, len: usize) -> Result<(), AllocError>
     requires { length states.old.items ≤ len }
     ensures long { IfOk result (λ _. length states.new.items ≡ len) }
-    ensures data { (low high : ℤ) (at : ℕ → Data) → IsRange low high → AreOf (S.of low high) at states.old.items → ((p : ℕ) → length states.old.items ≤ p → at p ≡ []) → AreOf (S.of low high) at states.new.items }
+    ensures data { (low high : ℤ) (at : ℕ → Data) → IsRange low high → AreOf (S.of low high) at states.old.items → ((p : ℕ) → length states.old.items ≤ p → at p ≡ []) → IfOk result (λ _. AreOf (S.of low high) at states.new.items) }
 {
-    for _turn in states.len()..len {
+    while states.len() < len {
         states.push(S::none())?;
     }
     Ok(())
@@ -98,6 +98,18 @@ pub(crate) fn step_at<S: GroupState>(
     states[place] = state.step(low, high, datum);
 }
 
+/// One datum of a kind more at a place.
+fn step_in<S: GroupState>(states: &mut Vec<S>, place: usize, kind: Kind, datum: Option<i128>)
+    requires within { place < length states.old.items }
+    requires datum { IsWithin (low_of kind) (high_of kind) datum }
+    requires few { (p : ℕ) (d : S) → p < length states.old.items → S.rows (get_or states.old.items p d) + 1 < 2 ^ 40 }
+    ensures long { length states.new.items ≡ length states.old.items }
+    ensures rows { (p : ℕ) (d : S) → p < length states.old.items → S.rows (get_or states.new.items p d) ≤ S.rows (get_or states.old.items p d) + 1 }
+    ensures data { (at : ℕ → Data) → AreOf (S.of (low_of kind) (high_of kind)) at states.old.items → AreOf (S.of (low_of kind) (high_of kind)) (λ p. at p ++ if_here p place (datum ∷ [])) states.new.items }
+{
+    step_at(states, place, low_of(kind), high_of(kind), datum);
+}
+
 /// The data of later rows behind those at a place.
 pub(crate) fn join_at<S: GroupState>(states: &mut Vec<S>, place: usize, later: S)
     requires within { place < length states.old.items }
@@ -108,4 +120,31 @@ pub(crate) fn join_at<S: GroupState>(states: &mut Vec<S>, place: usize, later: S
 {
     let state = states[place];
     states[place] = state.join(later);
+}
+
+/// The data of a column, each at its place.
+pub(crate) fn step_rows<S: GroupState>(states: &mut Vec<S>, places: &[usize], values: &Column)
+    requires even { length places.now ≡ length values.now.cells }
+    requires within { (i : ℕ) (d : ℕ) → i < length places.now → get_or places.now i d < length states.old.items }
+    requires few { (p : ℕ) (d : S) → p < length states.old.items → S.rows (get_or states.old.items p d) + length places.now < 2 ^ 40 }
+    ensures long { length states.new.items ≡ length states.old.items }
+    ensures data { (at : ℕ → Data) → AreOf (S.of (low_of (kind_of values.now.class)) (high_of (kind_of values.now.class))) at states.old.items → AreOf (S.of (low_of (kind_of values.now.class)) (high_of (kind_of values.now.class))) (λ p. at p ++ parts_at p places.now (singles values.now.cells)) states.new.items }
+{
+    let kind = values.class().kind();
+    for row in 0..places.len() {
+        step_in(states, places[row], kind, datum_of(&values.get(row)));
+    }
+}
+
+/// The data of later groups, each at its place.
+pub(crate) fn join_all<S: GroupState>(states: &mut Vec<S>, places: &[usize], later: &[S])
+    requires even { length places.now ≡ length later.now }
+    requires within { (i : ℕ) (d : ℕ) → i < length places.now → get_or places.now i d < length states.old.items }
+    requires few { (p : ℕ) (d : S) → p < length states.old.items → S.rows (get_or states.old.items p d) + rows_at S.rows p places.now later.now < 2 ^ 40 }
+    ensures long { length states.new.items ≡ length states.old.items }
+    ensures data { (low high : ℤ) (at : ℕ → Data) (parts : List Data) → IsRange low high → length parts ≡ length later.now → ((i : ℕ) (ds : Data) (d : S) → i < length later.now → S.of low high (get_or parts i ds) (get_or later.now i d)) → AreOf (S.of low high) at states.old.items → AreOf (S.of low high) (λ p. at p ++ parts_at p places.now parts) states.new.items }
+{
+    for i in 0..places.len() {
+        join_at(states, places[i], later[i]);
+    }
 }
