@@ -51,7 +51,11 @@ pub(crate) fn first_column(alloc: Global, class: Class, rows: usize) -> Result<C
 }
 
 /// A column of 1 and 2 in turn, which divide the numbers of the first.
-pub(crate) fn second_column(alloc: Global, class: Class, rows: usize) -> Result<Column, AllocError> {
+pub(crate) fn second_column(
+    alloc: Global,
+    class: Class,
+    rows: usize,
+) -> Result<Column, AllocError> {
     let mut column = Column::new(alloc, class);
     for row in 0..rows {
         let n = (row % 2) as i32 + 1;

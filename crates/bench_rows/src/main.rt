@@ -51,7 +51,12 @@ fn paired(alloc: Global, op: Binary, a: &Column, b: &Column) -> Option<Result<Co
 }
 
 /// None where the class table refuses.
-fn followed(alloc: Global, op: Binary, a: &Column, b: &Cell<'_>) -> Option<Result<Column, OpFault>> {
+fn followed(
+    alloc: Global,
+    op: Binary,
+    a: &Column,
+    b: &Cell<'_>,
+) -> Option<Result<Column, OpFault>> {
     match result_class(op, a.class(), false, b.class(), true) {
         Ok(_) => Some(map_scalar(alloc, op, a, b, false)),
         Err(_) => None,
@@ -78,7 +83,12 @@ fn once(
         Operator::One(op) => mapped(alloc, op, a),
         Operator::Two(op) => match other {
             "column" => paired(alloc, op, a, b),
-            _ => followed(alloc, op, a, &Cell::Double(small(other.parse().unwrap_or(0)))),
+            _ => followed(
+                alloc,
+                op,
+                a,
+                &Cell::Double(small(other.parse().unwrap_or(0))),
+            ),
         },
     }
 }
@@ -116,7 +126,12 @@ fn lines(alloc: Global, rows: usize, turns: usize) -> Result<i128, AllocError> {
 }
 
 /// The last cell after so many turns of the operator that the words name.
-fn named(alloc: Global, words: &[String], rows: usize, turns: usize) -> Result<Option<i128>, AllocError> {
+fn named(
+    alloc: Global,
+    words: &[String],
+    rows: usize,
+    turns: usize,
+) -> Result<Option<i128>, AllocError> {
     let class = class_of(word(words, 4));
     let a = first_column(alloc, class, rows)?;
     let b = second_column(alloc, class, rows)?;

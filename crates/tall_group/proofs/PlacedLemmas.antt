@@ -75,10 +75,10 @@ one_placed before mid after cs ps c p a i =
       more = a.more ++ m.0;
       grown = e ∙ (ap (λ ks. ks ++ m.0) a.grown ∙ append_assoc before a.more m.0);
       found_in = λ x.
-      ap (found x) i.keys
-      ∙ (found_with mid mid c (λ y. refl) x
-      ∙ (list_any-append (is_of_group x) mid (c ∷ [])
-      ∙ (ap (λ b. b || found x (c ∷ [])) (a.found_in x) ∙ (or_assoc (found x before) (found x cs) (found x (c ∷ [])) ∙ ap (λ b. found x before || b) (sym (list_any-append (is_of_group x) cs (c ∷ [])))))));
+          ap (found x) i.keys
+          ∙ (found_with mid mid c (λ y. refl) x
+          ∙ (list_any-append (is_of_group x) mid (c ∷ [])
+          ∙ (ap (λ b. b || found x (c ∷ [])) (a.found_in x) ∙ (or_assoc (found x before) (found x cs) (found x (c ∷ [])) ∙ ap (λ b. found x before || b) (sym (list_any-append (is_of_group x) cs (c ∷ [])))))));
       apart = λ h. subst AreApart (sym i.keys) (apart_by mid c (found c mid) refl (a.apart h));
       at = at_more after ps cs p c (subst (λ ks. AreAt ks ps cs) (sym e) (at_later mid m.0 ps cs a.at)) i.within i.here;
     }

@@ -56,13 +56,13 @@ pub more_unique : (fold : UniqueFold) (keys : SeenColumn) (cs : List Seen) (c : 
 more_unique fold keys cs c p n h same placed u =
     record {
       found_in = λ x.
-      ap (found x) placed.keys ∙ (found_with fold.keys.cells (present cs) c u.found_in x
-      ∙ ap (found x) (sym (filter-append is_present cs (c ∷ []) ∙ ap (λ ds. present cs ++ ds) (present_one c n))));
+          ap (found x) placed.keys ∙ (found_with fold.keys.cells (present cs) c u.found_in x
+          ∙ ap (found x) (sym (filter-append is_present cs (c ∷ []) ∙ ap (λ ds. present cs ++ ds) (present_one c n))));
       nans = u.nans ∙ ap length (sym (filter-append is_nan cs (c ∷ []) ∙ (ap (λ ds. filter is_nan cs ++ ds) (nan_one c false n) ∙ append-nil (filter is_nan cs))));
       kinds =
-      subst (λ k. All (HasKind (kind_of k)) (cs ++ c ∷ [])) (sym same)
-      (All-append (HasKind (kind_of fold.keys.class)) cs (c ∷ []) u.kinds
-      (All-cons (HasKind (kind_of fold.keys.class)) c [] (kind_is c fold.keys.class h) (All-nil (HasKind (kind_of fold.keys.class)))));
+          subst (λ k. All (HasKind (kind_of k)) (cs ++ c ∷ [])) (sym same)
+          (All-append (HasKind (kind_of fold.keys.class)) cs (c ∷ []) u.kinds
+          (All-cons (HasKind (kind_of fold.keys.class)) c [] (kind_is c fold.keys.class h) (All-nil (HasKind (kind_of fold.keys.class)))));
     }
 
 -- ---- NaNs
@@ -120,14 +120,14 @@ pub joined_unique : (fold later : UniqueFold) (keys : SeenColumn) (nans : ℕ) (
 joined_unique fold later keys nans cs ds ps h same placed n u v =
     record {
       found_in = λ c.
-      placed.found_in c
-      ∙ (ap (λ b. b || found c later.keys.cells) (u.found_in c)
-      ∙ (ap (λ b. found c (present cs) || b) (v.found_in c)
-      ∙ (sym (list_any-append (is_of_group c) (present cs) (present ds)) ∙ ap (found c) (sym (filter-append is_present cs ds)))));
+          placed.found_in c
+          ∙ (ap (λ b. b || found c later.keys.cells) (u.found_in c)
+          ∙ (ap (λ b. found c (present cs) || b) (v.found_in c)
+          ∙ (sym (list_any-append (is_of_group c) (present cs) (present ds)) ∙ ap (found c) (sym (filter-append is_present cs ds)))));
       nans = n ∙ (ap (λ m. m + later.nans) u.nans ∙ (ap (λ m. length (filter is_nan cs) + m) v.nans ∙ (sym (length-append (filter is_nan cs) (filter is_nan ds)) ∙ ap length (sym (filter-append is_nan cs ds)))));
       kinds =
-      subst (λ k. All (HasKind (kind_of k)) (cs ++ ds)) (sym same)
-      (All-append (HasKind (kind_of fold.keys.class)) cs ds u.kinds (subst (λ k. All (HasKind (kind_of k)) ds) h v.kinds));
+          subst (λ k. All (HasKind (kind_of k)) (cs ++ ds)) (sym same)
+          (All-append (HasKind (kind_of fold.keys.class)) cs ds u.kinds (subst (λ k. All (HasKind (kind_of k)) ds) h v.kinds));
     }
 
 pub nans_more : (k : Kind) (n : ℕ) (before : List Seen) (old new : SeenColumn) (d : Seen) → old.cells ≡ before ++ nans_of k n → new ≡ with_cell old d → d ≡ key_cell k Nan → new.cells ≡ before ++ nans_of k (n + 1)

@@ -25,10 +25,7 @@ pub(crate) enum Keys {
 }
 
 /// The place of a cell's number among the keys, to which it is added where it isn't there.
-fn number_place(
-    map: &mut IndexMap<Number, usize>,
-    cell: &Cell<'_>,
-) -> Result<usize, AllocError>
+fn number_place(map: &mut IndexMap<Number, usize>, cell: &Cell<'_>) -> Result<usize, AllocError>
     requires numeric { IsNumeric (seen_kind (seen cell.now)) }
     requires exact { AreExact (seen_kind (seen cell.now)) map.old.entries }
     requires places { ArePlaces map.old.entries }
@@ -111,10 +108,7 @@ fn number_column(
 }
 
 /// The texts as cells, and their places, in the order of the map.
-fn text_column(
-    alloc: Global,
-    texts: &IndexMap<String, usize>,
-) -> Result<PlacedKeys, AllocError>
+fn text_column(alloc: Global, texts: &IndexMap<String, usize>) -> Result<PlacedKeys, AllocError>
     ensures column { IfOk result (λ r. r.column ≡ record { class = class.Text; cells = map (λ e. text (string_bytes e.0)) texts.now.entries }) }
     ensures places { IfOk result (λ r. r.places.items ≡ map (λ e. e.1) texts.now.entries) }
 {
@@ -148,10 +142,7 @@ fn sorted_numbers(
 }
 
 /// The texts as cells in rising order, each with its place.
-fn sorted_texts(
-    alloc: Global,
-    mut texts: IndexMap<String, usize>,
-) -> Result<PlacedKeys, AllocError>
+fn sorted_texts(alloc: Global, mut texts: IndexMap<String, usize>) -> Result<PlacedKeys, AllocError>
     requires places { ArePlaces texts.entries }
     ensures class { IfOk result (λ r. r.column.class ≡ class.Text) }
     ensures sorted { IfOk result (λ r. AreSorted (map (λ e. text (string_bytes e.0)) texts.entries) r.places.items r.column.cells) }

@@ -20,8 +20,8 @@ up_to m n [] h = (at_most m n h, All-nil (λ x. x < n)) where
   at_most a b e = omega (arith, e)
 up_to m n (x ∷ xs) h =
     (let w = up_to (suc m) n xs h.1 in (omega (arith, w.0), All-cons (λ x. x < n) x xs (below x m n h.0 w.0) w.1)) where
-  below : (a b c : ℕ) → a ≡ b → suc b ≤ c → a < c
-  below a b c e h = omega (arith, e, h)
+      below : (a b c : ℕ) → a ≡ b → suc b ≤ c → a < c
+      below a b c e h = omega (arith, e, h)
 
 from_on : (k m n : ℕ) (xs : List ℕ) → k ≤ m → AreInTurn m xs n → All (λ x. k ≤ x) xs
 from_on k m n [] l h = All-nil (λ x. k ≤ x)
@@ -33,8 +33,8 @@ each_below : (k m : ℕ) (ys : List ℕ) → m < k → All (λ y. k ≤ y) ys �
 each_below k m [] l h = All-nil (λ y. m < y)
 each_below k m (y ∷ ys) l h =
     All-cons (λ y. m < y) y ys (less k m y l (All-head (λ y. k ≤ y) y ys h)) (each_below k m ys l (All-tail (λ y. k ≤ y) y ys h)) where
-  less : (a b c : ℕ) → b < a → a ≤ c → b < c
-  less a b c l h = omega (arith, l, h)
+      less : (a b c : ℕ) → b < a → a ≤ c → b < c
+      less a b c l h = omega (arith, l, h)
 
 all_below : (k : ℕ) (xs ys : List ℕ) → All (λ x. x < k) xs → All (λ y. k ≤ y) ys → AreBelow xs ys
 all_below k [] ys h i = All-nil (λ m. All (λ n. m < n) ys)
@@ -56,5 +56,5 @@ later_above ts p front rest entry h e =
     let third = parted second.0 first.0 (numbers_of_body entry.form) (numbers_of_statements rest) second.2 in
     all_below second.0 (numbers_of_statements front) (numbers_of_body entry.form) (up_to 1 second.0 (numbers_of_statements front) second.1).1
     (from_on second.0 second.0 third.0 (numbers_of_body entry.form) (itself second.0) third.1) where
-  itself : (n : ℕ) → n ≤ n
-  itself n = omega arith
+      itself : (n : ℕ) → n ≤ n
+      itself n = omega arith

@@ -73,23 +73,25 @@ columns_follow : (vs : List Vertex) (at : At) (o : Op) (n : ℕ) (columns : List
     → ((args : List ℕ) → All (Fine at o args) vs) → MayFollow vs (map (vertex at o) columns)
 columns_follow vs at o n [] safe l below fine = tt
 columns_follow vs at o n (args ∷ columns) safe l below fine =
-    let w = vertex at o args in
-    (add_one vs at o args (more_below n (length vs) args l below.0) (fine args),
-    columns_follow (vs ++ w ∷ []) at o n columns safe (at_most n (length vs) (length (vs ++ w ∷ [])) l (no_less vs w)) below.1
-    (λ more. one_more_fine at o more vs w (fine more) (inr (refl, inr (inr (inl safe)))))) where
-  at_most : (a b c : ℕ) → a ≤ b → b ≤ c → a ≤ c
-  at_most a b c h k = omega (arith, h, k)
+    let w = vertex at o args in (
+      add_one vs at o args (more_below n (length vs) args l below.0) (fine args),
+      columns_follow (vs ++ w ∷ []) at o n columns safe (at_most n (length vs) (length (vs ++ w ∷ [])) l (no_less vs w)) below.1
+          (λ more. one_more_fine at o more vs w (fine more) (inr (refl, inr (inr (inl safe))))),
+    ) where
+      at_most : (a b c : ℕ) → a ≤ b → b ≤ c → a ≤ c
+      at_most a b c h k = omega (arith, h, k)
 
 parts_follow : (vs : List Vertex) (at : At) (m : Method) (n : ℕ) (args : List ℕ) (parts : List Part) → n ≤ length vs → AllBelow n args
     → ((part : Part) → All (Fine at (group m part) args) vs) → MayFollow vs (map (λ part. vertex at (group m part) args) parts)
 parts_follow vs at m n args [] l below fine = tt
 parts_follow vs at m n args (part ∷ parts) l below fine =
-    let w = vertex at (group m part) args in
-    (add_one vs at (group m part) args (more_below n (length vs) args l below) (fine part),
-    parts_follow (vs ++ w ∷ []) at m n args parts (at_most n (length vs) (length (vs ++ w ∷ [])) l (no_less vs w)) below
-    (λ other. one_more_fine at (group m other) args vs w (fine other) (inr (refl, inr (inl (refl, refl, refl)))))) where
-  at_most : (a b c : ℕ) → a ≤ b → b ≤ c → a ≤ c
-  at_most a b c h k = omega (arith, h, k)
+    let w = vertex at (group m part) args in (
+      add_one vs at (group m part) args (more_below n (length vs) args l below) (fine part),
+      parts_follow (vs ++ w ∷ []) at m n args parts (at_most n (length vs) (length (vs ++ w ∷ [])) l (no_less vs w)) below
+          (λ other. one_more_fine at (group m other) args vs w (fine other) (inr (refl, inr (inl (refl, refl, refl))))),
+    ) where
+      at_most : (a b c : ℕ) → a ≤ b → b ≤ c → a ≤ c
+      at_most a b c h k = omega (arith, h, k)
 
 itself : (n : ℕ) → n ≤ n
 itself n = omega arith
@@ -97,10 +99,14 @@ itself n = omega arith
 pub expression_follows : (vs ws : List Vertex) (at : At) → All (IsLower at) vs → Adds at (length vs) ws → MayFollow vs ws
 expression_follows vs _ at lower (one_operation o args below) = (add_one vs at o args below (lower_fine at o args vs lower), tt)
 expression_follows vs _ at lower (behind_a_scalar c o args below) =
-    let w = vertex at (constant c) [] in
-    (add_one vs at (constant c) [] tt (lower_fine at (constant c) [] vs lower),
-    (add_one (vs ++ w ∷ []) at o args (subst (λ n. AllBelow n args) (sym (longer vs w)) below)
-    (one_more_fine at o args vs w (lower_fine at o args vs lower) (inr (refl, inr (inr (inr refl))))), tt))
+    let w = vertex at (constant c) [] in (
+      add_one vs at (constant c) [] tt (lower_fine at (constant c) [] vs lower),
+      (
+        add_one (vs ++ w ∷ []) at o args (subst (λ n. AllBelow n args) (sym (longer vs w)) below)
+            (one_more_fine at o args vs w (lower_fine at o args vs lower) (inr (refl, inr (inr (inr refl))))),
+        tt,
+      ),
+    )
 expression_follows vs _ at lower (over_columns o columns safe below) =
     columns_follow vs at o (length vs) columns safe (itself (length vs)) below (λ args. lower_fine at o args vs lower)
 expression_follows vs _ at lower (of_groups m parts args below) =
@@ -122,7 +128,8 @@ one_variable vs at place x fine = record {
 pub variables_follow : (vs : List Vertex) (at : At) (place : ℕ) (xs : List (ℕ × Class)) → All (MayStandBeside at place) vs → MayFollow vs (map (variable_of at place) xs)
 variables_follow vs at place [] fine = tt
 variables_follow vs at place (x ∷ xs) fine =
-    let w = variable_of at place x in
-    (one_variable vs at place x fine,
-    variables_follow (vs ++ w ∷ []) at place xs
-    (All-append (MayStandBeside at place) vs (w ∷ []) fine (All-cons (MayStandBeside at place) w [] (beside_another at place x.0 x.1) (All-nil (MayStandBeside at place)))))
+    let w = variable_of at place x in (
+      one_variable vs at place x fine,
+      variables_follow (vs ++ w ∷ []) at place xs
+          (All-append (MayStandBeside at place) vs (w ∷ []) fine (All-cons (MayStandBeside at place) w [] (beside_another at place x.0 x.1) (All-nil (MayStandBeside at place)))),
+    )

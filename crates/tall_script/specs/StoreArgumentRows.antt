@@ -35,14 +35,14 @@ defaults = refl
 -- each option by its name
 each_option : options_given (a_text "a.csv" ∷ a_text "Delimiter" ∷ a_text ";" ∷ a_text "ReadSize" ∷ scalar (double (Some (pos 3))) ∷ a_text "TreatAsMissing" ∷ a_text "NA"
     ∷ a_text "SelectedVariableNames" ∷ a_text "x" ∷ a_text "TextscanFormats" ∷ texts (codes "%u8" ∷ []) ∷ a_text "ReadVariableNames" ∷ scalar (logical false) ∷ []) ≡ Some (record {
-  files = codes "a.csv" ∷ [];
-  delimiter = 59;
-  size = Rows 3;
-  missing = codes "NA" ∷ [];
-  selected = Some (codes "x" ∷ []);
-  formats = Some (Uint8 ∷ []);
-  header = false;
-})
+      files = codes "a.csv" ∷ [];
+      delimiter = 59;
+      size = Rows 3;
+      missing = codes "NA" ∷ [];
+      selected = Some (codes "x" ∷ []);
+      formats = Some (Uint8 ∷ []);
+      header = false;
+    })
 unfolding options_given
 each_option = refl
 

@@ -58,8 +58,8 @@ header_same store file row (Some records) None after header h t some one o e = a
 header_same store file row (Some records) (Some rest) after [] h t some one o e = absurd (omega (arith, some))
 header_same store file row (Some records) (Some rest) after (fields ∷ []) h t some one o e = (
   ap (λ b. fault_when (b && not (begins_with store.first records)) HeaderDiffers file row) h
-  ∙ ap (λ rs. fault_when (not (begins_with store.first rs)) HeaderDiffers file row) t
-  ∙ ap (λ b. fault_when (not b) HeaderDiffers file row) o,
+      ∙ ap (λ rs. fault_when (not (begins_with store.first rs)) HeaderDiffers file row) t
+      ∙ ap (λ b. fault_when (not b) HeaderDiffers file row) o,
   e ∙ sym (ap (λ b. Some (if b then drop 1 records else records)) h ∙ ap (λ rs. Some (drop 1 rs)) t),
 )
 header_same store file row (Some records) (Some rest) after (fields ∷ more ∷ others) h t some one o e = absurd (omega (arith, one))

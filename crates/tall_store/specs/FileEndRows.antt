@@ -4,7 +4,6 @@ use Rattle.csv.proofs.OnLiterals.{csv_on_literals}
 use Rattle.tall_outside.specs.Shelf.{Files}
 use Rattle.tall_cut.specs.declared.cutter.ReadSize.TheVariants.{Rows}
 use Rattle.tall_value.specs.declared.faults.ReadingKind.TheVariants.{NoFile, HeaderDiffers}
-
 use Rattle.tall_store.specs.declared.format.Format.TheVariants.{Double}
 use Rattle.tall_store.specs.Stores.{SeenStore}
 use Rattle.tall_store.specs.FileEnds.{fault_at, header_faults, walked_file}

@@ -11,9 +11,7 @@ ghost use Rattle.tall_store.specs.FileEnds.{ChecksHeader, EndExplained, EndLonge
 use crate::faults::{ReadingFault, ReadingKind};
 use crate::file_end::FileEnd;
 use crate::store::Datastore;
-use tall_cut::{
-    Cause, Cutter, FeedFault, Found, Lent, Next, OpenedFile, RawBlock, open_feed,
-};
+use tall_cut::{Cause, Cutter, FeedFault, Found, Lent, Next, OpenedFile, RawBlock, open_feed};
 use tall_outside::Shelf;
 
 /// The most bytes that one opening of a file may give.

@@ -205,12 +205,15 @@ module _ (store : SeenStore) where
 
   ascending_from : (n : ℕ) (bs : List Block) → AreConsecutive n bs → AreAscending (blocks_of store bs)
   ascending_from n [] h = tt
-  ascending_from n (b ∷ bs) h =
-      ((n + length b.records,
-        (λ s v. all_below (n + length b.records) b.row (cells_of (get_or store.selected v 0) b)
+  ascending_from n (b ∷ bs) h = (
+    (
+      n + length b.records,
+      (λ s v. all_below (n + length b.records) b.row (cells_of (get_or store.selected v 0) b)
           (let e : b.row ≡ n = h.0 in let l = no_longer (get_or store.selected v 0) (records_of b) in let k = records_long b.file b.row b.records in omega (arith, e, l, k))),
-        (λ s v. rest_from (n + length b.records) (n + length b.records) bs h.2 (omega arith) s v)),
-      ascending_from (n + length b.records) bs h.2)
+      (λ s v. rest_from (n + length b.records) (n + length b.records) bs h.2 (omega arith) s v),
+    ),
+    ascending_from (n + length b.records) bs h.2,
+  )
 
 pub ascending_blocks : (files : Files) (d : Store) → first_fault d.store files ≡ None → (cutting : List Fields → List (List Fields)) → IsCutting cutting → AreAscending (blocks_of d.store (blocks_from cutting d.store files 0 1 d.store.files))
 ascending_blocks files d none cutting c = ascending_from d.store 1 (blocks_from cutting d.store files 0 1 d.store.files) (all_consecutive d.store cutting c files none)
@@ -267,10 +270,11 @@ module _ (files : Files) (stores : List Store) (vs : List Vertex) (columns : Col
 
     tables_from : (n : ℕ) (bs : List Block) → AreConsecutive d.store n bs → AreTables vs cut (blocks_of d.store bs)
     tables_from n [] h = tt
-    tables_from n (b ∷ bs) h =
-        ((λ i j v w s a o e g k l p q.
+    tables_from n (b ∷ bs) h = (
+      (λ i j v w s a o e g k l p q.
           block_numbers d.store a (found_of i v s a e k p).selected b h.1 s ∙ sym (block_numbers d.store o (found_of j w s o g l q).selected b h.1 s)),
-        tables_from (n + length b.records) bs h.2)
+      tables_from (n + length b.records) bs h.2,
+    )
 
     pub stored_tables : AreTables vs cut (blocks_of d.store Raw)
     stored_tables = tables_from 1 Raw (all_consecutive d.store cutting c files none)
@@ -282,7 +286,7 @@ column_there files place o d variable e = ap (λ x. column_of files place x vari
 
 pub are_stored : (files : Files) (stores : List Store) (vs : List Vertex)
     → ((i : ℕ) (v : Vertex) (place variable : ℕ) (class : Class) → slice_get vs i ≡ Some v → v.made ≡ stored place variable class
-        → (d : Store) × (slice_get stores place ≡ Some d) × (v.at ≡ d.at) × (variable < length d.store.selected) × (class ≡ variable_class d.store variable))
+    → (d : Store) × (slice_get stores place ≡ Some d) × (v.at ≡ d.at) × (variable < length d.store.selected) × (class ≡ variable_class d.store variable))
     → AreStored files stores vs (columns_of files stores)
 are_stored files stores vs named i v place variable class e q =
     let w = named i v place variable class e q in

@@ -20,7 +20,7 @@ ghost use Rattle.tall_stored_blocks.specs.StoredBlocks.{blocks_of, columns_of};
 pub fn columns_of_datastores_are_stored()
     ensures { (files : Files) (stores : List Store) (vs : List Vertex)
         → ((i : ℕ) (v : Vertex) (place variable : ℕ) (class : Class) → slice_get vs i ≡ Some v → v.made ≡ stored place variable class
-            → (d : Store) × (slice_get stores place ≡ Some d) × (v.at ≡ d.at) × (variable < length d.store.selected) × (class ≡ variable_class d.store variable))
+        → (d : Store) × (slice_get stores place ≡ Some d) × (v.at ≡ d.at) × (variable < length d.store.selected) × (class ≡ variable_class d.store variable))
         → AreStored files stores vs (columns_of files stores) }
 {}
 

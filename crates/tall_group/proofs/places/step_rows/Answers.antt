@@ -10,10 +10,14 @@ pub loop-row-preserved : goal.loop-row-preserved
 loop-row-preserved g c =
     let i = c.loop-row.invariant in
     let l : c.loop-row.row < length c.args.places.now = omega (arith, c.loop-row-test.true) in
-    let k = c.kind-kind.ensures ∙ ap kind_of c.class.ensures in
-    (c.step_in.ensures.long ∙ i.0, k, refl, omega (arith, c.loop-row-test.true),
-    (λ p d h. omega (arith, l, i.4 p d h, c.step_in.ensures.rows p d (omega (arith, h, i.0)))),
-    (λ at a. row_added (λ j. g.S.GroupState.of (low_of j) (high_of j)) c.kind-kind.result _ at c.args.places.now c.args.values.now.cells c.loop-row.row _ _ _ _ k l c.requires.even c.get.ensures.cell c.datum_of.ensures.value c.step_in.ensures.data (i.5 at a)))
+    let k = c.kind-kind.ensures ∙ ap kind_of c.class.ensures in (
+      c.step_in.ensures.long ∙ i.0,
+      k,
+      refl,
+      omega (arith, c.loop-row-test.true),
+      (λ p d h. omega (arith, l, i.4 p d h, c.step_in.ensures.rows p d (omega (arith, h, i.0)))),
+      (λ at a. row_added (λ j. g.S.GroupState.of (low_of j) (high_of j)) c.kind-kind.result _ at c.args.places.now c.args.values.now.cells c.loop-row.row _ _ _ _ k l c.requires.even c.get.ensures.cell c.datum_of.ensures.value c.step_in.ensures.data (i.5 at a)),
+    )
 
 pub returns-clause-data : goal.returns-clause-data
 returns-clause-data g c at a =

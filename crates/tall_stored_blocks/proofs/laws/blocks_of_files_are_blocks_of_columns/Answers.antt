@@ -14,10 +14,11 @@ returns-clause-ascending c = ascending_blocks
 
 pub returns-clause-sizes : goal.returns-clause-sizes
 returns-clause-sizes c files stores vs columns are place d there cut here none size =
-    let cuts = sizes_cut d.store.size size in
-    (stored_blocks files stores vs columns are place d there cut here none (in_blocks d.store.size) cuts,
-    stored_tables files stores vs columns are place d there cut here none (in_blocks d.store.size) cuts,
-    ascending_blocks files d none (in_blocks d.store.size) cuts)
+    let cuts = sizes_cut d.store.size size in (
+      stored_blocks files stores vs columns are place d there cut here none (in_blocks d.store.size) cuts,
+      stored_tables files stores vs columns are place d there cut here none (in_blocks d.store.size) cuts,
+      ascending_blocks files d none (in_blocks d.store.size) cuts,
+    )
 
 pub returns-clause-reading : goal.returns-clause-reading
 returns-clause-reading c = reading_there

@@ -29,5 +29,5 @@ pub returns-in-Some-clause-rows : goal.returns-in-Some-clause-rows
 returns-in-Some-clause-rows c =
     IfOk-weaker c.chosen.result _ _
     (λ asked is. subst (λ (rows : Option ℕ). IfSome rows (λ n. (1 ≤ n) × (n ≤ 1000000))) (sym is)
-        (c.number-rows.ensures.range 1000000 (omega arith) c.in-Ok.ensures.found.demo))
+    (c.number-rows.ensures.range 1000000 (omega arith) c.in-Ok.ensures.found.demo))
     c.chosen.ensures.rows

@@ -18,8 +18,9 @@ invariant_of-result c =
     (after_is_sum (bounds_of c.self.inside.limits) (bounds_of c.later.inside.limits) c.self.inside.rows c.later.inside.rows c.self.invariant c.later.invariant few)
 
 pub returns-clause-data : goal.returns-clause-data
-returns-clause-data c low high ds es r p q =
-    (joined_sums low high ds es _ _ _ r c.self.invariant.ordered c.later.invariant.ordered c.one_after.ensures
-    (subst (λ (b : Bounds × ℕ). Sums low high (numbers ds) b.0) (sym c.self.view_is) p.0)
-    (subst (λ (b : Bounds × ℕ). Sums low high (numbers es) b.0) (sym c.later.view_is) q.0),
-    rows_join ds es _ _ (ap (λ s. s.1) c.self.view_is ∙ p.1) (ap (λ s. s.1) c.later.view_is ∙ q.1))
+returns-clause-data c low high ds es r p q = (
+  joined_sums low high ds es _ _ _ r c.self.invariant.ordered c.later.invariant.ordered c.one_after.ensures
+      (subst (λ (b : Bounds × ℕ). Sums low high (numbers ds) b.0) (sym c.self.view_is) p.0)
+      (subst (λ (b : Bounds × ℕ). Sums low high (numbers es) b.0) (sym c.later.view_is) q.0),
+  rows_join ds es _ _ (ap (λ s. s.1) c.self.view_is ∙ p.1) (ap (λ s. s.1) c.later.view_is ∙ q.1),
+)

@@ -31,8 +31,9 @@ invariant_of-result c =
 pub returns-clause-data : goal.returns-clause-data
 returns-clause-data c ds p =
     let is : bounds_of c.row_limits.result ≡ row_or_none c.args.low c.args.high c.args.datum = search rules in
-    let row : IsSum (bounds_of c.row_limits.result) 1 = subst (λ (b : Bounds). IsSum b 1) (sym is) (datum_is_sum c.args.low c.args.high c.args.datum c.requires.range c.requires.datum) in
-    (joined_sums c.args.low c.args.high ds (c.args.datum ∷ []) _ _ _ c.requires.range c.self.invariant.ordered row.ordered c.one_after.ensures
-    (subst (λ (b : Bounds × ℕ). Sums c.args.low c.args.high (numbers ds) b.0) (sym c.self.view_is) p.0)
-    (subst (λ (b : Bounds). Sums c.args.low c.args.high (numbers (c.args.datum ∷ [])) b) (sym is) (one_native c.args.low c.args.high c.args.datum c.requires.range)),
-    rows_step ds c.args.datum _ (ap (λ s. s.1) c.self.view_is ∙ p.1))
+    let row : IsSum (bounds_of c.row_limits.result) 1 = subst (λ (b : Bounds). IsSum b 1) (sym is) (datum_is_sum c.args.low c.args.high c.args.datum c.requires.range c.requires.datum) in (
+      joined_sums c.args.low c.args.high ds (c.args.datum ∷ []) _ _ _ c.requires.range c.self.invariant.ordered row.ordered c.one_after.ensures
+          (subst (λ (b : Bounds × ℕ). Sums c.args.low c.args.high (numbers ds) b.0) (sym c.self.view_is) p.0)
+          (subst (λ (b : Bounds). Sums c.args.low c.args.high (numbers (c.args.datum ∷ [])) b) (sym is) (one_native c.args.low c.args.high c.args.datum c.requires.range)),
+      rows_step ds c.args.datum _ (ap (λ s. s.1) c.self.view_is ∙ p.1),
+    )
