@@ -1,5 +1,5 @@
 -- From the answers of a shelf to the names that were opened.
-use Rattle.std.proofs.Common.{◌≡◌, ◌∙◌, ◌++◌, ◌∷◌, [], ℕ, List, Option, Some, None, refl, sym, ap, subst, inl, inr}
+use Rattle.std.proofs.Common.{◌≡◌, ◌∙◌, ◌++◌, ◌∷◌, [], ℕ, List, Option, Some, None, sym, ap, subst, inl, inr}
 use Rattle.std.proofs.lemmas.List.{append-nil, append_assoc}
 use Rattle.tall_outside.specs.Shelf.{Logs}
 use Rattle.tall_outside.specs.declared.shelf.Opening.{Opening}

@@ -1,5 +1,5 @@
 -- One file of the walk: its header, and what is left behind it.
-use Rattle.std.proofs.Common.{ℕ, zero, suc, ◌≡◌, ◌<◌, ◌≤◌, ◌∙◌, ◌+◌, ◌^◌, List, [], ◌∷◌, ◌++◌, length, drop, true, false, refl, sym, ap, subst, arith, get_or, Bool}
+use Rattle.std.proofs.Common.{ℕ, ◌≡◌, ◌<◌, ◌≤◌, ◌∙◌, ◌+◌, ◌^◌, List, [], ◌∷◌, length, drop, true, false, sym, ap, subst, arith}
 use Rattle.std.specs.Prelude.{Option, Some, None, IfSome, ◌&&◌, not, if◌then◌else◌, option_map}
 use Rattle.std.proofs.lemmas.List.{drop_more, length-append}
 use Rattle.tall_outside.specs.Shelf.{Files, file_in}

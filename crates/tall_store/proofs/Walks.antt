@@ -1,12 +1,11 @@
 -- The walk over a datastore's files: its tables end at the first fault, and its blocks have their size.
 use Rattle.std.proofs.Common.{ℕ, zero, suc, ◌≡◌, ◌∙◌, ◌<◌, ◌≤◌, ◌+◌, List, [], ◌∷◌, ◌++◌, Bool, true, false, Option, Some, None, Ok, Err, Result, sym, ap, subst, refl, arith, length, take, drop}
-use Rattle.std.specs.Prelude.{◌-◌, ◌&&◌, min, map, not}
+use Rattle.std.specs.Prelude.{◌-◌, ◌&&◌, map, not}
 use Rattle.std.specs.List.{flat_map}
 use Rattle.std.specs.Option.{option_or}
 use Rattle.std.proofs.lemmas.List.{length-drop, length-take}
 use Rattle.tall_outside.specs.Shelf.{Files, file_in}
 use Rattle.tall_column.specs.Columns.{SeenColumn}
-use Rattle.tall_cut.specs.declared.cutter.ReadSize.TheVariants.{Rows}
 use Rattle.tall_cut.specs.Rows.{Fields}
 use Rattle.tall_value.specs.declared.faults.ReadingKind.{ReadingKind}
 use Rattle.tall_value.specs.declared.faults.ReadingKind.TheVariants.{HeaderDiffers, NoFile}

@@ -1,5 +1,5 @@
 -- What the reader of one file has left, and what its answers say.
-use Rattle.std.specs.Prelude.{◌≡◌, ◌<◌, ◌≤◌, ◌^◌, ℕ, ◌+◌, ◌*◌, IfSome, List, length, Option, ⊤}
+use Rattle.std.specs.Prelude.{◌≡◌, ◌<◌, ◌≤◌, ◌^◌, ℕ, ◌+◌, IfSome, List, length, Option, ⊤}
 use Rattle.tall_outside.specs.declared.shelf.Shelf as shelf
 use Rattle.tall_cut.specs.Finding.{raw_count, raw_records}
 use Rattle.tall_cut.specs.declared.feed.OpenedFile as opened
