@@ -7,3 +7,4 @@ pub mod UniqueLemmas
 pub mod PlacedLemmas
 pub mod NativeLemmas
 pub mod PartLemmas
+pub mod GroupLemmas

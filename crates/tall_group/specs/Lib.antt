@@ -6,3 +6,4 @@ pub mod States
 pub mod StateLaws
 pub mod Limits
 pub mod Places
+pub mod Groups

@@ -31,6 +31,11 @@ rows_at rows p [] states = 0
 rows_at rows p (q ∷ qs) [] = 0
 rows_at rows p (q ∷ qs) (s ∷ states) = (if q == p then rows s else 0) + rows_at rows p qs states
 
+-- the data of a key, if there is one
+abbrev pub key_data : List Seen → List Seen → Option Seen → Data
+key_data keys data' (Some k) = map datum (group_data k keys data')
+key_data keys data' None = []
+
 -- the data of the key at a place
 abbrev pub group_at : List Seen → List Seen → List Seen → ℕ → Data
-group_at ks keys data' p = elim (slice_get ks p) [ Some k ↦ map datum (group_data k keys data') | None ↦ [] ]
+group_at ks keys data' p = key_data keys data' (slice_get ks p)

@@ -1,17 +1,17 @@
 //! Distinct values and groups of columns, over any cut into blocks.
 #![tactic(auto)]
 
-mod keys;
 mod numbers;
 mod table;
+mod keys;
 mod unique;
 
 pub use unique::UniqueFold;
-
+mod states;
+mod totals;
 mod bests;
 mod limits;
 mod natives;
-mod places;
-mod states;
 mod tallies;
-mod totals;
+mod places;
+mod groups;

@@ -36,7 +36,7 @@ pub(crate) fn datum_of(cell: &Cell<'_>) -> Option<i128>
 }
 
 /// The least number of the data of a kind.
-pub(crate) fn low_of(kind: Kind) -> i128
+fn low_of(kind: Kind) -> i128
     ensures { result ≡ low_of kind }
 {
     match kind {
@@ -50,7 +50,7 @@ pub(crate) fn low_of(kind: Kind) -> i128
 }
 
 /// The greatest number of the data of a kind.
-pub(crate) fn high_of(kind: Kind) -> i128
+fn high_of(kind: Kind) -> i128
     ensures { result ≡ high_of kind }
 {
     match kind {
@@ -79,7 +79,7 @@ pub(crate) fn extend<S: GroupState>(states: &mut Vec<S>, len: usize) -> Result<(
 }
 
 /// One datum more at a place.
-pub(crate) fn step_at<S: GroupState>(
+fn step_at<S: GroupState>(
     states: &mut Vec<S>,
     place: usize,
     low: i128,
@@ -99,7 +99,12 @@ pub(crate) fn step_at<S: GroupState>(
 }
 
 /// One datum of a kind more at a place.
-fn step_in<S: GroupState>(states: &mut Vec<S>, place: usize, kind: Kind, datum: Option<i128>)
+pub(crate) fn step_in<S: GroupState>(
+    states: &mut Vec<S>,
+    place: usize,
+    kind: Kind,
+    datum: Option<i128>,
+)
     requires within { place < length states.old.items }
     requires datum { IsWithin (low_of kind) (high_of kind) datum }
     requires few { (p : ℕ) (d : S) → p < length states.old.items → S.rows (get_or states.old.items p d) + 1 < 2 ^ 40 }
@@ -111,7 +116,7 @@ fn step_in<S: GroupState>(states: &mut Vec<S>, place: usize, kind: Kind, datum: 
 }
 
 /// The data of later rows behind those at a place.
-pub(crate) fn join_at<S: GroupState>(states: &mut Vec<S>, place: usize, later: S)
+fn join_at<S: GroupState>(states: &mut Vec<S>, place: usize, later: S)
     requires within { place < length states.old.items }
     requires few { (d : S) → S.rows (get_or states.old.items place d) + S.rows later < 2 ^ 40 }
     ensures long { length states.new.items ≡ length states.old.items }

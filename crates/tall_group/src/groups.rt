@@ -1,0 +1,78 @@
+//! Groups: keys, and a state for each.
+ghost use Rattle.std.specs.Prelude.{◌≡◌, ◌<◌, ◌+◌, ◌++◌, ◌^◌, ℤ, [], ◌∷◌, IfOk, List, length};
+ghost use Rattle.tall_value.specs.Cells.{Seen, seen, seen_kind};
+ghost use Rattle.tall_dense.specs.Columns.{class_of_cell};
+ghost use Rattle.tall_value.specs.Classes.{kind_of};
+ghost use Rattle.tall_group.specs.Groups.{IsGroupsOf};
+ghost use Rattle.tall_group.specs.States.{IsRange, high_of, low_of};
+
+use crate::places::{datum_of, extend, join_all, step_in, step_rows};
+use crate::states::GroupState;
+use crate::table::KeyTable;
+use std::alloc::AllocError;
+use tall_column::Column;
+use tall_value::{Cell, Kind};
+
+/// The groups with the rows of two columns behind: the keys and the data.
+pub(crate) fn add_rows<S: GroupState>(
+    table: &mut KeyTable,
+    states: &mut Vec<S>,
+    keys: &Column,
+    values: &Column,
+) -> Result<(), AllocError>
+    requires class { keys.now.class ≡ table.old.class }
+    requires even { length keys.now.cells ≡ length values.now.cells }
+    requires groups { (ks vs : List Seen) × IsGroupsOf (S.of (low_of (kind_of values.now.class)) (high_of (kind_of values.now.class))) table.old.cells states.old.items ks vs × (length ks + length keys.now.cells < 2 ^ 40) }
+    ensures class { table.new.class ≡ table.old.class }
+    ensures groups { (ks vs : List Seen) → IsGroupsOf (S.of (low_of (kind_of values.now.class)) (high_of (kind_of values.now.class))) table.old.cells states.old.items ks vs → length ks + length keys.now.cells < 2 ^ 40
+        → IfOk result (λ _. IsGroupsOf (S.of (low_of (kind_of values.now.class)) (high_of (kind_of values.now.class))) table.new.cells states.new.items (ks ++ keys.now.cells) (vs ++ values.now.cells)) }
+{
+    let places = table.place_rows(keys)?;
+    extend(states, table.len())?;
+    step_rows(states, places.as_slice(), values);
+    Ok(())
+}
+
+/// The groups with one row behind.
+pub(crate) fn add_row<S: GroupState>(
+    table: &mut KeyTable,
+    states: &mut Vec<S>,
+    key: &Cell<'_>,
+    value: &Cell<'_>,
+) -> Result<(), AllocError>
+    requires class { class_of_cell (seen key.now) ≡ table.old.class }
+    requires groups { (ks vs : List Seen) × IsGroupsOf (S.of (low_of (seen_kind (seen value.now))) (high_of (seen_kind (seen value.now)))) table.old.cells states.old.items ks vs × (length ks + 1 < 2 ^ 40) }
+    ensures class { table.new.class ≡ table.old.class }
+    ensures groups { (ks vs : List Seen) → IsGroupsOf (S.of (low_of (seen_kind (seen value.now))) (high_of (seen_kind (seen value.now)))) table.old.cells states.old.items ks vs → length ks + 1 < 2 ^ 40
+        → IfOk result (λ _. IsGroupsOf (S.of (low_of (seen_kind (seen value.now))) (high_of (seen_kind (seen value.now)))) table.new.cells states.new.items (ks ++ seen key.now ∷ []) (vs ++ seen value.now ∷ [])) }
+{
+    let place = table.place(key)?;
+    extend(states, table.len())?;
+    step_in(states, place, cell_kind(value), datum_of(value));
+    Ok(())
+}
+
+fn cell_kind(cell: &Cell<'_>) -> Kind
+    ensures { result ≡ seen_kind (seen cell.now) }
+{
+    cell.content().kind()
+}
+
+/// The groups with later ones behind.
+pub(crate) fn join_groups<S: GroupState>(
+    table: &mut KeyTable,
+    states: &mut Vec<S>,
+    later_keys: &KeyTable,
+    later: &[S],
+) -> Result<(), AllocError>
+    requires class { later_keys.now.class ≡ table.old.class }
+    requires groups { (low high : ℤ) × IsRange low high × (ks vs js ws : List Seen) × IsGroupsOf (S.of low high) table.old.cells states.old.items ks vs × IsGroupsOf (S.of low high) later_keys.now.cells later.now js ws × (length ks + length js < 2 ^ 40) }
+    ensures class { table.new.class ≡ table.old.class }
+    ensures groups { (low high : ℤ) (ks vs js ws : List Seen) → IsRange low high → IsGroupsOf (S.of low high) table.old.cells states.old.items ks vs → IsGroupsOf (S.of low high) later_keys.now.cells later.now js ws → length ks + length js < 2 ^ 40
+        → IfOk result (λ _. IsGroupsOf (S.of low high) table.new.cells states.new.items (ks ++ js) (vs ++ ws)) }
+{
+    let places = table.place_keys(later_keys)?;
+    extend(states, table.len())?;
+    join_all(states, places.as_slice(), later);
+    Ok(())
+}
