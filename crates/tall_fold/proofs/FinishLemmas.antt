@@ -86,13 +86,13 @@ if_cell : (a : Kind) (b : Bool) (x y : ℤ) → (if b then number_cell a y else 
 if_cell a true x y = refl
 if_cell a false x y = refl
 
-lesser_is : (a : Kind) (x y : ℤ) → lesser (number_cell a x) (number_cell a y) ≡ number_cell a (int_min x y)
+pub lesser_is : (a : Kind) (x y : ℤ) → lesser (number_cell a x) (number_cell a y) ≡ number_cell a (int_min x y)
 lesser_is (Integer k) x y = if_cell (Integer k) (is_lt (int_cmp y x)) x y ∙ ap (number_cell (Integer k)) (min_is x y (int_cmp y x) refl)
 lesser_is Logical x y = if_cell Logical (is_lt (int_cmp y x)) x y ∙ ap (number_cell Logical) (min_is x y (int_cmp y x) refl)
 lesser_is Double x y = if_cell Double (is_lt (int_cmp y x)) x y ∙ ap (number_cell Double) (min_is x y (int_cmp y x) refl)
 lesser_is Text x y = if_cell Text (is_lt (int_cmp y x)) x y ∙ ap (number_cell Text) (min_is x y (int_cmp y x) refl)
 
-greater_is : (a : Kind) (x y : ℤ) → greater (number_cell a x) (number_cell a y) ≡ number_cell a (int_max x y)
+pub greater_is : (a : Kind) (x y : ℤ) → greater (number_cell a x) (number_cell a y) ≡ number_cell a (int_max x y)
 greater_is (Integer k) x y = if_cell (Integer k) (is_lt (int_cmp x y)) x y ∙ ap (number_cell (Integer k)) (max_is x y (int_cmp x y) refl)
 greater_is Logical x y = if_cell Logical (is_lt (int_cmp x y)) x y ∙ ap (number_cell Logical) (max_is x y (int_cmp x y) refl)
 greater_is Double x y = if_cell Double (is_lt (int_cmp x y)) x y ∙ ap (number_cell Double) (max_is x y (int_cmp x y) refl)

@@ -6,3 +6,4 @@ pub mod SummaryLemmas
 pub mod RunningLemmas
 pub mod CarryLemmas
 pub mod ScanLemmas
+pub mod WholeLemmas

@@ -101,7 +101,7 @@ module _ {V : Type 0} (op : Scan) (a : Kind) (next : Seen → Seen → Seen) (f 
   scanned_if (Ok t) items start rows p q = λ cs h. scan_is_running cs (f start) 0 rows q h ∙ ap (λ (l : List Seen). Ok (numbered 0 l)) (sym p)
   scanned_if (Err e) items start rows p q = tt
 
-clamped-append : (low high sum : ℤ) (xs ys : List ℤ) → clamped_sum low high sum (xs ++ ys) ≡ clamped_sum low high (clamped_sum low high sum xs) ys
+pub clamped-append : (low high sum : ℤ) (xs ys : List ℤ) → clamped_sum low high sum (xs ++ ys) ≡ clamped_sum low high (clamped_sum low high sum xs) ys
 clamped-append low high sum [] ys = refl
 clamped-append low high sum (x ∷ xs) ys = clamped-append low high (nearest low high (sum +ℤ x)) xs ys
 

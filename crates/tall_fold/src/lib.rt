@@ -4,6 +4,7 @@
 mod carried;
 mod carries;
 mod kept;
+mod laws;
 mod pick;
 mod results;
 mod running;
@@ -13,5 +14,6 @@ mod summary;
 mod values;
 
 pub use carries::Carry;
+pub use laws::scans_are_of_the_whole;
 pub use scans::carry;
 pub use summary::{Summary, summarise};
