@@ -1,11 +1,11 @@
 -- What the laws ask for is met by the blocks of two small files.
-use Rattle.std.specs.Prelude.{◌≡◌, refl, ℕ, zero, suc, ◌<◌, ◌^◌, List, [], ◌∷◌, length, None, Some, slice_get}
+use Rattle.std.specs.Prelude.{◌≡◌, refl, ℕ, zero, suc, ◌<◌, [], length, None, Some, slice_get}
 use Rattle.std.proofs.Common.{ap, sym, subst, ◌∙◌, arith}
 use Rattle.csv.proofs.OnLiterals.{csv_on_literals}
 use Rattle.tall_value.specs.declared.class.Class.{Class}
 use Rattle.tall_value.specs.declared.class.Class.TheVariants as class
 use Rattle.tall_semantics.specs.Operations.{Made, stored, operation}
-use Rattle.tall_semantics.specs.Talls.{Tall, Columns, tall}
+use Rattle.tall_semantics.specs.Talls.{Columns, tall}
 use Rattle.tall_semantics.specs.Deferred.{Vertex, AllBelow, IsMeaning}
 use Rattle.tall_semantics.specs.InOrder.{IsAccepted, IsSound, tall_in, talls, talls_from}
 use Rattle.tall_semantics.proofs.Basics.{inside}

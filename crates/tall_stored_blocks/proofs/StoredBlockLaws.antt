@@ -1,10 +1,9 @@
 -- The blocks of a datastore without a reading fault have the rows of its columns.
-use Rattle.std.proofs.Common.{ℕ, zero, suc, ◌≡◌, ◌∙◌, ◌<◌, ◌+◌, ◌^◌, Bool, true, false, List, [], ◌∷◌, ◌++◌, length, length-append, map, get_or, Option, None, Some, Result, Ok, Err, sym, ap, refl, subst, arith}
+use Rattle.std.proofs.Common.{ℕ, zero, suc, ◌≡◌, ◌∙◌, ◌<◌, ◌+◌, ◌^◌, Bool, true, false, List, [], ◌∷◌, ◌++◌, length, length-append, get_or, Option, None, Some, Result, Ok, Err, sym, ap, refl, subst, arith}
 use Rattle.std.specs.Prelude.{◌≤◌, if◌then◌else◌, nat_le, nat_lt, slice_get}
 use Rattle.std.specs.List.{filter_map, flat_map, cons_option, range_with_len}
 use Rattle.std.specs.Result.{result_err, result_ok}
 use Rattle.std.proofs.lemmas.Grind.{flat_map-append}
-use Rattle.std.proofs.lemmas.List.{map-append}
 use Rattle.tall_outside.specs.Shelf.{Files, file_in}
 use Rattle.tall_value.specs.declared.class.Class.{Class}
 use Rattle.tall_value.specs.declared.faults.ReadingKind.TheVariants.{TooManyFields, TooManyRows}
@@ -12,24 +11,24 @@ use Rattle.tall_value.specs.Cells.{Seen}
 use Rattle.tall_value.specs.Columns.{numbered}
 use Rattle.tall_cut.specs.Rows.{Fields}
 use Rattle.tall_semantics.specs.Operations.{Made, stored, operation}
-use Rattle.tall_semantics.specs.Outcomes.{Outcome, rows, fault}
+use Rattle.tall_semantics.specs.Outcomes.{rows, fault}
 use Rattle.tall_semantics.specs.Talls.{Columns}
 use Rattle.tall_semantics.specs.Deferred.{Vertex}
 use Rattle.tall_semantics.specs.RowsOfSpaces.{numbers_in}
 use Rattle.tall_blocks.specs.Carries.{Rows}
-use Rattle.tall_blocks.specs.Blocks.{all_rows, AllNumbers, RowsBelow, RowsFrom, AreAscending, AreBlocksOf, IsTable, AreTables, IsVariable}
+use Rattle.tall_blocks.specs.Blocks.{all_rows, AllNumbers, RowsFrom, AreAscending, AreBlocksOf, AreTables, IsVariable}
 use Rattle.tall_store.specs.declared.faults.ReadingFault.{ReadingFault}
-use Rattle.tall_store.specs.Blocks.{Block, HasRows, IsCutting, all_blocks, blocks_from, in_blocks, numbered_blocks}
+use Rattle.tall_store.specs.Blocks.{Block, IsCutting, blocks_from, numbered_blocks}
 use Rattle.tall_store.specs.Stores.{SeenStore}
 use Rattle.tall_store.specs.Records.{DataRecord, data_in, numbered_records}
 use Rattle.tall_store.specs.ReadingOrder.{earlier_of, first_reading_fault, precedes}
 use Rattle.tall_store.specs.Reads.{column_faults}
 use Rattle.tall_store.specs.Stored.{all_faults, cells_at, first_fault, record_faults, unless_fault, value_at}
 use Rattle.tall_store.specs.Walk.{WalkedFile, all_records, fault_when, records_from, walk}
-use Rattle.tall_store.proofs.Joins.{cells_join, sizes_cut}
+use Rattle.tall_store.proofs.Joins.{cells_join}
 use Rattle.tall_store.proofs.Limits.{numbered_append}
 use Rattle.tall_store.proofs.TableRows.{whole_height}
-use Rattle.tall_stored.specs.StoredColumns.{AreStored, IsColumn, Store, fault_of_reading, stored_outcome, variable_class}
+use Rattle.tall_stored.specs.StoredColumns.{AreStored, Store, fault_of_reading, stored_outcome, variable_class}
 use Rattle.tall_stored_blocks.specs.StoredBlocks.{column_of, columns_of, block_of, blocks_of}
 
 -- ---- no fault

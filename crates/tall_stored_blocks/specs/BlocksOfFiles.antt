@@ -1,5 +1,5 @@
 -- Worked blocks of small files.
-use Rattle.std.specs.Prelude.{◌≡◌, refl, ℕ, pos, false, true, None, Some, List, [], ◌∷◌, codes, map}
+use Rattle.std.specs.Prelude.{◌≡◌, refl, pos, false, true, None, Some, List, [], ◌∷◌, codes, map}
 use Rattle.csv.proofs.OnLiterals.{csv_on_literals}
 use Rattle.tall_cut.specs.declared.cutter.ReadSize.TheVariants.{Rows}
 use Rattle.tall_outside.specs.Shelf.{Files}
