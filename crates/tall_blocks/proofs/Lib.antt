@@ -20,6 +20,7 @@ pub mod PieceCarryLaws
 pub mod PassWorkLaws
 pub mod LevelWorkLaws
 pub mod PassCarryLaws
+pub mod EndOperandLaws
 pub mod SampleLaws
 pub mod BlockFoldLaws
 pub mod GatheredLaws

@@ -64,7 +64,7 @@ scalar_fits s (fault f) e fits n = absurd (cc)
 
 -- ---- numbers and candidates
 
-below_more : (c : Option Fault) (m n : ℕ) → m ≤ n → IsBelow c n → IsBelow c m
+pub below_more : (c : Option Fault) (m n : ℕ) → m ≤ n → IsBelow c n → IsBelow c m
 below_more None m n l h = tt
 below_more (Some x) m n l h = omega (arith, l, h)
 
