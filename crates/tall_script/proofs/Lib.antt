@@ -16,3 +16,4 @@ mod SizedOpenings
 mod LaterNumbers
 mod PhaseStores
 mod VerticesAdded
+mod PairTables

@@ -10,6 +10,7 @@ ghost use Rattle.tall_grammar.specs.Trees.{Args, Body, SeenFunction, SeenScript,
 ghost use Rattle.tall_local.specs.CallsMade.{listing, unlisted};
 ghost use Rattle.tall_local.specs.Expressions.{arguments, gives, value};
 ghost use Rattle.tall_local.specs.Memory.{Memory};
+ghost use Rattle.tall_local.specs.MemoryLaws.{CanBeHeld};
 ghost use Rattle.tall_local.specs.Pairs.{Pair};
 ghost use Rattle.tall_local.specs.StoreLaws.{IsStore};
 ghost use Rattle.tall_local.specs.Values.{datastore};
@@ -19,7 +20,7 @@ ghost use Rattle.tall_store.specs.Blocks.{in_blocks};
 ghost use Rattle.tall_cut.specs.Rows.{Fields};
 ghost use Rattle.tall_script.specs.AnswerLaws.{HasOneAllowance, HasOneAnswer};
 ghost use Rattle.tall_script.specs.Gathers.{gather_all, gather_value, talls_in};
-ghost use Rattle.tall_script.specs.MapReduce.{map_phase, reduce_phase};
+ghost use Rattle.tall_script.specs.MapReduce.{map_phase, pairs_table, reduce_phase};
 ghost use Rattle.tall_script.specs.MapReduceLaws.{joined_results, mapped_block, reduced_key};
 ghost use Rattle.tall_script.specs.NumberLaws.{AreBelow, AreInTurn, Ascends, numbers_of, numbers_of_body, numbers_of_script, numbers_of_statements};
 ghost use Rattle.tall_script.specs.Numbering.{numbered, numbered_script};
@@ -137,10 +138,11 @@ pub fn mapreduce_is_made_of_calls_on_empty_stores()
 {}
 
 /// Each phase of mapreduce keeps the rules of its store: keys that a store takes, of one class, values of one class, and fewer than
-/// 2^40 pairs. With 'file' a block is all of a file that has a record, and of one without there is none.
+/// 2^40 pairs; so the table of the output's pairs has cells of its columns' classes. With 'file' a block is all of a file that has a record, and of one without there is none.
 pub fn phases_keep_their_stores()
     ensures map_phase { (d : Store) (f : SeenFunction) (blocks : List (Result (List (List ℕ × SeenColumn)) ReadingFault)) (pairs : List Pair) → IsStore pairs → IsStoreOrStop (map_phase d f blocks pairs) }
     ensures reduce_phase { (f : SeenFunction) (pairs : List Pair) (keys : List Seen) (out : List Pair) → IsStore out → IsStoreOrStop (reduce_phase f pairs keys out) }
+    ensures table { (out : List Pair) → IsStore out → CanBeHeld (pairs_table out) }
     ensures whole_file { (first : Fields) (rest : List Fields) → in_blocks File (first ∷ rest) ≡ (first ∷ rest) ∷ [] }
     ensures no_record { in_blocks File [] ≡ [] }
 {}

@@ -1,4 +1,5 @@
 use Rattle.std.specs.Prelude.{refl}
+use Rattle.tall_script.proofs.PairTables.{table_held}
 use Rattle.tall_script.proofs.PhaseStores.{mapped_store, reduced_store}
 use Rattle.tall_script.proofs.laws.phases_keep_their_stores.Goals as goal
 
@@ -13,3 +14,6 @@ returns-clause-whole_file c first rest = refl
 
 pub returns-clause-no_record : goal.returns-clause-no_record
 returns-clause-no_record c = refl
+
+pub returns-clause-table : goal.returns-clause-table
+returns-clause-table c = table_held

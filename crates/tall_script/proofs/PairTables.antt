@@ -1,0 +1,86 @@
+-- The table of a store's pairs can be held: its two columns have cells of their class, and one height.
+use Rattle.std.proofs.Common.{◌≡◌, ℕ, List, [], ◌∷◌, Bool, true, false, refl, ap, sym, ◌∙◌, subst}
+use Rattle.std.proofs.lemmas.Bool.{eqb-true, true≢false}
+use Rattle.std.proofs.lemmas.List.{length-map}
+use Rattle.std.proofs.lemmas.List.Elements.{All-nil, All-cons}
+use Rattle.std.specs.List.{All}
+use Rattle.std.specs.Prelude.{get_or, length, map}
+use Rattle.tall_value.specs.declared.class.IntKind.{IntKind}
+use Rattle.tall_value.specs.declared.class.IntKind.TheVariants.{Int8, Int16, Int32, Int64, Uint8, Uint16, Uint32, Uint64}
+use Rattle.tall_value.specs.declared.class.Kind.{Kind}
+use Rattle.tall_value.specs.declared.class.Kind.TheVariants.{Integer, Logical, Double, Text}
+use Rattle.tall_value.specs.Cells.{Seen, seen_kind}
+use Rattle.tall_value.specs.Classes.{class_of, kind_of, place}
+use Rattle.tall_value.specs.Columns.{HasKind}
+use Rattle.tall_value.proofs.KindLaws.{kind_again}
+use Rattle.tall_column.specs.Columns.{SeenColumn}
+use Rattle.tall_local.specs.CallLaws.{HaveClasses, HaveOneClass}
+use Rattle.tall_local.specs.MemoryLaws.{HasItsClass, CanBeHeld}
+use Rattle.tall_local.specs.Pairs.{Pair, same_kind, same_class, column_of_cells, key_of, value_of}
+use Rattle.tall_local.specs.StoreLaws.{IsStore}
+use Rattle.tall_script.specs.MapReduce.{pairs_table}
+
+abbrev kinds : List IntKind
+kinds = Int8 ∷ Int16 ∷ Int32 ∷ Int64 ∷ Uint8 ∷ Uint16 ∷ Uint32 ∷ Uint64 ∷ []
+
+by_place : (k : IntKind) → get_or kinds (place k) Int8 ≡ k
+by_place Int8 = refl
+by_place Int16 = refl
+by_place Int32 = refl
+by_place Int64 = refl
+by_place Uint8 = refl
+by_place Uint16 = refl
+by_place Uint32 = refl
+by_place Uint64 = refl
+
+same_kinds : (j k : Kind) → same_kind j k ≡ true → k ≡ j
+same_kinds (Integer i) (Integer k) h = ap Integer (sym (by_place k) ∙ ap (λ n. get_or kinds n Int8) (sym (eqb-true (place i) (place k) h)) ∙ by_place i)
+same_kinds (Integer i) Logical h = absurd (true≢false (sym h))
+same_kinds (Integer i) Double h = absurd (true≢false (sym h))
+same_kinds (Integer i) Text h = absurd (true≢false (sym h))
+same_kinds Logical (Integer k) h = absurd (true≢false (sym h))
+same_kinds Logical Logical h = refl
+same_kinds Logical Double h = absurd (true≢false (sym h))
+same_kinds Logical Text h = absurd (true≢false (sym h))
+same_kinds Double (Integer k) h = absurd (true≢false (sym h))
+same_kinds Double Logical h = absurd (true≢false (sym h))
+same_kinds Double Double h = refl
+same_kinds Double Text h = absurd (true≢false (sym h))
+same_kinds Text (Integer k) h = absurd (true≢false (sym h))
+same_kinds Text Logical h = absurd (true≢false (sym h))
+same_kinds Text Double h = absurd (true≢false (sym h))
+same_kinds Text Text h = refl
+
+of_class : (k : Kind) (cs : List Seen) → All (HasKind k) cs → All (HasKind (kind_of (class_of k))) cs
+of_class k cs h = subst (λ j. All (HasKind j) cs) (sym (kind_again k)) h
+
+keys_alike : (p : Pair) (ps : List Pair) → HaveClasses p ps → All (HasKind (seen_kind p.key)) (map key_of ps)
+keys_alike p [] h = All-nil (HasKind (seen_kind p.key))
+keys_alike p (q ∷ ps) h = All-cons (HasKind (seen_kind p.key)) q.key (map key_of ps) (same_kinds (seen_kind p.key) (seen_kind q.key) h.0) (keys_alike p ps h.2)
+
+values_alike : (p : Pair) (ps : List Pair) → HaveClasses p ps → All (HasKind (seen_kind p.value)) (map value_of ps)
+values_alike p [] h = All-nil (HasKind (seen_kind p.value))
+values_alike p (q ∷ ps) h = All-cons (HasKind (seen_kind p.value)) q.value (map value_of ps) (same_kinds (seen_kind p.value) (seen_kind q.value) h.1) (values_alike p ps h.2)
+
+cells_of_column : (cs : List Seen) → (column_of_cells cs).cells ≡ cs
+cells_of_column [] = refl
+cells_of_column (c ∷ cs) = refl
+
+-- as many keys as values
+one_height : (ps : List Pair) → length (column_of_cells (map value_of ps)).cells ≡ length (column_of_cells (map key_of ps)).cells
+one_height ps =
+    ap (λ (cs : List Seen). length cs) (cells_of_column (map value_of ps)) ∙ length-map ps value_of
+    ∙ sym (ap (λ (cs : List Seen). length cs) (cells_of_column (map key_of ps)) ∙ length-map ps key_of)
+
+keys_have : (ps : List Pair) → HaveOneClass ps → HasItsClass (column_of_cells (map key_of ps))
+keys_have [] h = All-nil (HasKind Double)
+keys_have (p ∷ ps) h =
+    of_class (seen_kind p.key) (map key_of (p ∷ ps)) (All-cons (HasKind (seen_kind p.key)) p.key (map key_of ps) refl (keys_alike p ps h))
+
+values_have : (ps : List Pair) → HaveOneClass ps → HasItsClass (column_of_cells (map value_of ps))
+values_have [] h = All-nil (HasKind Double)
+values_have (p ∷ ps) h =
+    of_class (seen_kind p.value) (map value_of (p ∷ ps)) (All-cons (HasKind (seen_kind p.value)) p.value (map value_of ps) refl (values_alike p ps h))
+
+pub table_held : (out : List Pair) → IsStore out → CanBeHeld (pairs_table out)
+table_held out h = ((keys_have out h.classes, (values_have out h.classes, tt)), (refl, (one_height out, tt)))
