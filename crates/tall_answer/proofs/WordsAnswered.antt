@@ -1,5 +1,5 @@
 -- Words have exactly one answer over files.
-use Rattle.std.proofs.Common.{◌≡◌, ℕ, List, refl, ap, sym, ◌∙◌, subst}
+use Rattle.std.proofs.Common.{◌≡◌, ℕ, List, refl, ap, sym, subst}
 use Rattle.std.specs.Prelude.{Option, None, Some}
 use Rattle.clap.specs.Words.{Text}
 use Rattle.tall_outside.specs.Shelf.{Files}
@@ -9,7 +9,7 @@ use Rattle.tall_script.specs.Answers.{Answer, Answers}
 use Rattle.tall_script.specs.Answers as script
 use Rattle.tall_script.proofs.OneAnswer.{one_answer, one_allowance}
 use Rattle.tall_words.specs.Commands.{Asked, command, run_demo, run_script}
-use Rattle.tall_answer.specs.CommandAnswers.{Status, done, fault, usage, CommandAnswer, status_of, of_script, usage_answer, script_name, files_of, AnswersAsked, no_command, of_command, AnswersWords}
+use Rattle.tall_answer.specs.CommandAnswers.{usage, CommandAnswer, status_of, of_script, usage_answer, script_name, files_of, AnswersAsked, no_command, of_command, AnswersWords}
 use Rattle.tall_answer.specs.CommandOpenings.{IsAllowedAsked, without_command, for_script, for_demo, IsAllowedByWords}
 
 -- ---- answers

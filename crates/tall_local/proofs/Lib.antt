@@ -14,3 +14,4 @@ mod LocalsHeld
 mod StepsHeld
 mod TurnsSuffice
 pub mod ListedCalls
+pub mod KeyLaws

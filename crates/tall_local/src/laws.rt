@@ -15,7 +15,7 @@ ghost use Rattle.tall_local.specs.MemoryIndexing.{memory_index, memory_member};
 ghost use Rattle.tall_local.specs.MemoryLaws.{CanBeHeld, GivesHeld, HasItsClass, IsTableOf, NamesCanBeHeld, OnGiven, OperandsCanBeHeld};
 ghost use Rattle.tall_local.specs.MemoryOperators.{memory_binary, memory_unary};
 ghost use Rattle.tall_local.specs.Locals.{Held, Locals, function_language};
-ghost use Rattle.tall_local.specs.Pairs.{Pair, appended, with_pair};
+ghost use Rattle.tall_local.specs.Pairs.{Pair, appended, is_key_of, same_class, with_pair};
 ghost use Rattle.tall_local.specs.StateLaws.{TakesOn, state_after};
 ghost use Rattle.tall_local.specs.StoreLaws.{IsStore};
 ghost use Rattle.tall_value.specs.Cells.{Seen};
@@ -56,11 +56,14 @@ pub fn functions_have_the_faults_of_their_list()
 {}
 
 /// A store has keys that a store takes, of one class, values of one class, and fewer than 2^40 pairs: at its start, with each
-/// pair that it takes, with the pairs of another store appended to it, and after each call.
+/// pair that it takes, with the pairs of another store appended to it, and after each call. Of one class, keys are equal where their
+/// values are.
 pub fn a_store_keeps_its_rules()
     ensures start { IsStore [] }
     ensures pair { (pairs more : List Pair) (p : Pair) → IsStore pairs → with_pair pairs p ≡ Ok more → IsStore more }
     ensures appended { (pairs own : List Pair) → IsStore pairs → IsStore (appended pairs own).pairs }
+    ensures same_key { (key : Seen) (p : Pair) → same_class key p.key ≡ true → is_key_of key p ≡ true → key ≡ p.key }
+    ensures own_key { (p : Pair) → is_key_of p.key p ≡ true }
     ensures calls { (f : SeenFunction) (arguments : List Held) (key_values : List Seen) (pairs : List Pair) → IsStore pairs → IsStore (call_of f arguments key_values pairs).pairs }
 {}
 

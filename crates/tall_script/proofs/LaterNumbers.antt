@@ -6,7 +6,7 @@ use Rattle.std.specs.List.{All}
 use Rattle.tall_grammar.specs.Grammar.{IsScript}
 use Rattle.tall_grammar.specs.Lexemes.{Lexeme}
 use Rattle.tall_grammar.specs.Trees.{SeenStatement, SeenScript}
-use Rattle.tall_script.specs.NumberLaws.{numbers_of_body, numbers_of_statements, numbers_of_functions, numbers_of_script, AreInTurn, AreBelow}
+use Rattle.tall_script.specs.NumberLaws.{numbers_of_body, numbers_of_statements, numbers_of_functions, AreInTurn, AreBelow}
 use Rattle.tall_script.proofs.NumbersInTurn.{script_in_turn}
 
 -- in two parts

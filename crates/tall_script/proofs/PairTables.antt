@@ -1,55 +1,21 @@
 -- The table of a store's pairs can be held: its two columns have cells of their class, and one height.
-use Rattle.std.proofs.Common.{◌≡◌, ℕ, List, [], ◌∷◌, Bool, true, false, refl, ap, sym, ◌∙◌, subst}
-use Rattle.std.proofs.lemmas.Bool.{eqb-true, true≢false}
+use Rattle.std.proofs.Common.{◌≡◌, List, [], ◌∷◌, refl, ap, sym, ◌∙◌, subst}
 use Rattle.std.proofs.lemmas.List.{length-map}
 use Rattle.std.proofs.lemmas.List.Elements.{All-nil, All-cons}
 use Rattle.std.specs.List.{All}
-use Rattle.std.specs.Prelude.{get_or, length, map}
-use Rattle.tall_value.specs.declared.class.IntKind.{IntKind}
-use Rattle.tall_value.specs.declared.class.IntKind.TheVariants.{Int8, Int16, Int32, Int64, Uint8, Uint16, Uint32, Uint64}
+use Rattle.std.specs.Prelude.{length, map}
 use Rattle.tall_value.specs.declared.class.Kind.{Kind}
-use Rattle.tall_value.specs.declared.class.Kind.TheVariants.{Integer, Logical, Double, Text}
+use Rattle.tall_value.specs.declared.class.Kind.TheVariants.{Double}
 use Rattle.tall_value.specs.Cells.{Seen, seen_kind}
-use Rattle.tall_value.specs.Classes.{class_of, kind_of, place}
+use Rattle.tall_value.specs.Classes.{class_of, kind_of}
 use Rattle.tall_value.specs.Columns.{HasKind}
 use Rattle.tall_value.proofs.KindLaws.{kind_again}
-use Rattle.tall_column.specs.Columns.{SeenColumn}
 use Rattle.tall_local.specs.CallLaws.{HaveClasses, HaveOneClass}
 use Rattle.tall_local.specs.MemoryLaws.{HasItsClass, CanBeHeld}
-use Rattle.tall_local.specs.Pairs.{Pair, same_kind, same_class, column_of_cells, key_of, value_of}
+use Rattle.tall_local.specs.Pairs.{Pair, column_of_cells, key_of, value_of}
 use Rattle.tall_local.specs.StoreLaws.{IsStore}
+use Rattle.tall_local.proofs.KeyLaws.{same_kinds}
 use Rattle.tall_script.specs.MapReduce.{pairs_table}
-
-abbrev kinds : List IntKind
-kinds = Int8 ∷ Int16 ∷ Int32 ∷ Int64 ∷ Uint8 ∷ Uint16 ∷ Uint32 ∷ Uint64 ∷ []
-
-by_place : (k : IntKind) → get_or kinds (place k) Int8 ≡ k
-by_place Int8 = refl
-by_place Int16 = refl
-by_place Int32 = refl
-by_place Int64 = refl
-by_place Uint8 = refl
-by_place Uint16 = refl
-by_place Uint32 = refl
-by_place Uint64 = refl
-
-same_kinds : (j k : Kind) → same_kind j k ≡ true → k ≡ j
-same_kinds (Integer i) (Integer k) h = ap Integer (sym (by_place k) ∙ ap (λ n. get_or kinds n Int8) (sym (eqb-true (place i) (place k) h)) ∙ by_place i)
-same_kinds (Integer i) Logical h = absurd (true≢false (sym h))
-same_kinds (Integer i) Double h = absurd (true≢false (sym h))
-same_kinds (Integer i) Text h = absurd (true≢false (sym h))
-same_kinds Logical (Integer k) h = absurd (true≢false (sym h))
-same_kinds Logical Logical h = refl
-same_kinds Logical Double h = absurd (true≢false (sym h))
-same_kinds Logical Text h = absurd (true≢false (sym h))
-same_kinds Double (Integer k) h = absurd (true≢false (sym h))
-same_kinds Double Logical h = absurd (true≢false (sym h))
-same_kinds Double Double h = refl
-same_kinds Double Text h = absurd (true≢false (sym h))
-same_kinds Text (Integer k) h = absurd (true≢false (sym h))
-same_kinds Text Logical h = absurd (true≢false (sym h))
-same_kinds Text Double h = absurd (true≢false (sym h))
-same_kinds Text Text h = refl
 
 of_class : (k : Kind) (cs : List Seen) → All (HasKind k) cs → All (HasKind (kind_of (class_of k))) cs
 of_class k cs h = subst (λ j. All (HasKind j) cs) (sym (kind_again k)) h

@@ -1,17 +1,17 @@
 -- Both phases of mapreduce keep the rules of a store.
-use Rattle.std.proofs.Common.{◌≡◌, ℕ, List, [], ◌∷◌}
+use Rattle.std.proofs.Common.{ℕ, List, [], ◌∷◌}
 use Rattle.std.specs.Prelude.{Option, None, Some, Result, Ok, Err}
 use Rattle.tall_value.specs.Cells.{Seen}
 use Rattle.tall_column.specs.Columns.{SeenColumn}
 use Rattle.tall_grammar.specs.Trees.{SeenFunction}
 use Rattle.tall_store.specs.declared.faults.ReadingFault.{ReadingFault}
-use Rattle.tall_local.specs.Calls.{CallResult, call_map, call_reduce}
+use Rattle.tall_local.specs.Calls.{call_map, call_reduce}
 use Rattle.tall_local.specs.Pairs.{Pair, values_of}
 use Rattle.tall_local.specs.Refusals.{Stop}
 use Rattle.tall_local.specs.StoreLaws.{IsStore}
 use Rattle.tall_local.proofs.StoreKept.{call_store}
 use Rattle.tall_script.specs.BlockLaws.{IsStoreOrStop}
-use Rattle.tall_script.specs.MapReduce.{go_on_with, map_phase, reduce_phase}
+use Rattle.tall_script.specs.MapReduce.{map_phase, reduce_phase}
 use Rattle.tall_script.specs.States.{Store}
 
 by_stop : (stop : Option Stop) (ps : List Pair) (f : List Pair → Result (List Pair) Stop) → IsStoreOrStop (f ps) → IsStoreOrStop (elim stop [ None ↦ f ps | Some s ↦ Err s ])

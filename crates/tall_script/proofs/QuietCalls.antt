@@ -5,19 +5,18 @@ use Rattle.std.proofs.lemmas.List.{append-nil, append_assoc}
 use Rattle.std.proofs.lemmas.List.Elements.{All-nil, All-head, All-tail, All-cons}
 use Rattle.std.specs.List.{All, flat_map}
 use Rattle.std.specs.Option.{is_some}
-use Rattle.std.specs.Prelude.{if◌then◌else◌, ◌==◌, ◌&&◌, length, slice_get, codes, Option, None, Some, Result, Ok, Err}
+use Rattle.std.specs.Prelude.{if◌then◌else◌, ◌==◌, ◌&&◌, length, slice_get, Option, None, Some, Result, Ok, Err}
 use Rattle.tall_grammar.specs.Trees.{Tree, tree, Args, Body, assigned, property, bare, SeenFunction}
 use Rattle.tall_grammar.specs.Trees as trees
 use Rattle.tall_outside.specs.Shelf.{Files}
 use Rattle.tall_semantics.specs.Faults.{At}
-use Rattle.tall_semantics.specs.Openings.{share}
 use Rattle.tall_semantics.specs.Talls.{Tall, shapes}
 use Rattle.tall_store.specs.declared.faults.StoreFault.{StoreFault}
 use Rattle.tall_store.specs.Opening.{opening}
 use Rattle.tall_store.specs.Options.{SeenOptions, is_accepted, is_nonempty}
 use Rattle.tall_store.specs.Stores.{SeenStore}
 use Rattle.tall_local.specs.Arguments.{Argument, value_given}
-use Rattle.tall_local.specs.CallsMade.{Call, with_calls, listing, unlisted}
+use Rattle.tall_local.specs.CallsMade.{with_calls, listing, unlisted}
 use Rattle.tall_local.specs.Expressions.{Valued, gives, stops, go_on, answered, value, arguments}
 use Rattle.tall_local.specs.Lists.{all_of, each_of}
 use Rattle.tall_local.specs.Memory.{Memory}
@@ -32,9 +31,9 @@ use Rattle.tall_local.proofs.StatesKept.{value_kept, arguments_kept}
 use Rattle.tall_script.specs.Datastores.{datastore_call, options_in, first_opening, made_store, store_with}
 use Rattle.tall_script.specs.Gathers.{answered_all, gathered_value, gather_all, gather_if, gather_one, gather_openings, gather_value, talls_in}
 use Rattle.tall_script.specs.OpeningLaws.{ScriptCall, makes_datastore, gathers_tall, gathers_one, gathers_into, reduces_store, call_opens, OpensNothing, GathersNothing, IsQuiet}
-use Rattle.tall_script.specs.ScriptLanguage.{Setting, place, mapreduce_with, function_in, reduced_arguments, reduce_store, script_call, script_language, script_value, table_or_stop}
+use Rattle.tall_script.specs.ScriptLanguage.{Setting, place, mapreduce_with, function_in, reduced_arguments, reduce_store, script_call, script_language, script_value}
 use Rattle.tall_script.specs.ScriptValues.{TallValue}
-use Rattle.tall_script.specs.Statements.{Done, shows, fails, then_do, set_names, set_name, gather_into, put_store, alone, body}
+use Rattle.tall_script.specs.Statements.{Done, fails, then_do, set_names, set_name, gather_into, put_store, alone, body}
 use Rattle.tall_script.specs.States.{Openings, State, Store, times_allowed, with_openings}
 use Rattle.tall_script.specs.StatesFollow.{done_state}
 use Rattle.tall_script.proofs.OpeningsKept.{both_allowed}

@@ -2,7 +2,7 @@
 use Rattle.std.proofs.Common.{◌≡◌, ℕ, List, [], ◌∷◌, Bool, true, false, refl, ap, sym, ◌∙◌}
 use Rattle.std.specs.List.{list_all}
 use Rattle.std.specs.Str.{is_utf8}
-use Rattle.std.specs.Prelude.{if◌then◌else◌, ◌&&◌, ◌^◌, not, nat_le, length, Option, None, Some, Result, Ok, Err}
+use Rattle.std.specs.Prelude.{if◌then◌else◌, ◌&&◌, ◌^◌, not, nat_le, length, Option, None, Some, Result, Err}
 use Rattle.tall_cut.specs.declared.cutter.ReadSize.{ReadSize}
 use Rattle.tall_cut.specs.Rows.{Fields, file_records}
 use Rattle.tall_outside.specs.Shelf.{Files, file_in}
@@ -14,7 +14,7 @@ use Rattle.tall_store.specs.Names.{variable_names}
 use Rattle.tall_store.specs.Opening.{store_of, opened_variables, opened_first, first_fields, opened_records, opened_file, first_name, opening}
 use Rattle.tall_store.specs.Options.{SeenOptions, is_choice, is_delimiter, is_size, is_absent_or, is_nonempty, is_accepted}
 use Rattle.tall_store.specs.Stores.{SeenStore}
-use Rattle.tall_script.specs.SizeLaws.{in_blocks_of, with_size, opened_in}
+use Rattle.tall_script.specs.SizeLaws.{with_size, opened_in}
 
 if_opened : (size : ReadSize) (b : Bool) (p q r s : Result SeenStore StoreFault) → p ≡ opened_in size r → q ≡ opened_in size s → (if b then p else q) ≡ opened_in size (if b then r else s)
 if_opened size true p q r s h k = h

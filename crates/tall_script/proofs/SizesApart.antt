@@ -6,10 +6,9 @@ use Rattle.std.specs.List.{flat_map}
 use Rattle.std.specs.Prelude.{if◌then◌else◌, ◌==◌, ◌&&◌, not, map, length, slice_get, codes, Option, None, Some, option_map, Result, Ok, Err}
 use Rattle.tall_cut.specs.declared.cutter.ReadSize.{ReadSize}
 use Rattle.tall_cut.specs.declared.cutter.ReadSize.TheVariants.{File}
-use Rattle.tall_cut.specs.Rows.{Fields, file_records}
 use Rattle.tall_grammar.specs.Trees.{Tree, tree, Args, no_args, value_arg, colon_arg, Body, assigned, property, bare, SeenStatement}
 use Rattle.tall_grammar.specs.Trees as trees
-use Rattle.tall_outside.specs.Shelf.{Files, file_in}
+use Rattle.tall_outside.specs.Shelf.{Files}
 use Rattle.tall_semantics.specs.Faults.{At, Cause, computed, reading, Fault, least_fault}
 use Rattle.tall_semantics.specs.Outcomes.{fault_of}
 use Rattle.tall_semantics.specs.Openings.{share}
@@ -28,7 +27,7 @@ use Rattle.tall_store.specs.Stores.{SeenStore}
 use Rattle.tall_value.specs.declared.faults.ReadingKind.{ReadingKind}
 use Rattle.tall_value.specs.declared.faults.ReadingKind.TheVariants as kind
 use Rattle.tall_local.specs.Arguments.{Argument, colon, given, value_given}
-use Rattle.tall_local.specs.Expressions.{Language, Valued, gives, stops, go_on, answered, Callee, a_value, callee_named, callee, handle_in, call_value, argument, value, arguments}
+use Rattle.tall_local.specs.Expressions.{Language, Valued, gives, stops, go_on, answered, a_value, callee_named, callee, handle_in, call_value, argument, value, arguments}
 use Rattle.tall_local.specs.Functions.{script_function_named}
 use Rattle.tall_local.specs.Lists.{all_of, each_of}
 use Rattle.tall_local.specs.Memory.{Memory}
@@ -40,14 +39,14 @@ use Rattle.tall_local.specs.declared.functions.ScriptFunction.{ScriptFunction}
 use Rattle.tall_local.specs.declared.functions.ScriptFunction.TheVariants.{OfValues, TabularTextDatastore, Tall as TallOf, Gather, MapReduce, ReadAll, Elsewhere}
 use Rattle.tall_script.specs.Datastores.{datastore_call, options_in, first_opening, made_store, store_with, or_bad, changed}
 use Rattle.tall_script.specs.Gathers.{answered_all, values_or_fault, gathered_value, gather_all, gather_if, gather_one, gather_openings, gather_value, talls_in}
-use Rattle.tall_script.specs.ReadingFaults.{reading_in, refusal_of_cause, stop_of_fault}
+use Rattle.tall_script.specs.ReadingFaults.{reading_in, refusal_of_cause}
 use Rattle.tall_script.specs.Runs.{Run, behind, next, run_from}
 use Rattle.tall_script.specs.ScriptLanguage.{Setting, place, read_name, is_mapreduce, script_call, script_language, script_value}
 use Rattle.tall_script.specs.ScriptValues.{TallValue}
-use Rattle.tall_script.specs.SizeLaws.{in_blocks_of, resized, sizeless, sizeless_state, sizeless_valued, sizeless_done, sizeless_run, reduces, is_reducing, reduces_none, reduce_none}
+use Rattle.tall_script.specs.SizeLaws.{in_blocks_of, sizeless, sizeless_state, sizeless_valued, sizeless_done, sizeless_run, reduces, is_reducing, reduces_none, reduce_none}
 use Rattle.tall_script.specs.Statements.{Done, shows, fails, then_do, set_name, set_names, shown_text, assign, gather_into, datastore_named, changed_store, put_store, alone, body, statement}
 use Rattle.tall_script.specs.StoreArguments.{properties, size_given, texts_given, formats_given}
-use Rattle.tall_script.specs.States.{Openings, State, Store, with_openings, with_store}
+use Rattle.tall_script.specs.States.{Openings, State, Store, with_openings}
 use Rattle.tall_script.specs.TallTables.{tall_of, tall_of_store, tall_call}
 use Rattle.tall_script.proofs.Sizes.{same_table}
 

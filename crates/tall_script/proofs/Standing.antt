@@ -1,5 +1,5 @@
 -- Operations over tall values give no reading fault but one of an operand.
-use Rattle.std.proofs.Common.{◌≡◌, ℕ, List, [], ◌∷◌, Bool, true, false, inl, inr}
+use Rattle.std.proofs.Common.{ℕ, List, [], ◌∷◌, Bool, true, false, inl, inr}
 use Rattle.std.proofs.lemmas.Bool.{false≢true}
 use Rattle.std.specs.Prelude.{if◌then◌else◌, map, Option, None, Some, Result, Ok, Err}
 use Rattle.tall_value.specs.declared.faults.CellFault.{CellFault}

@@ -1,5 +1,5 @@
 -- Each vertex that an expression adds keeps what a graph keeps of its numbers.
-use Rattle.std.proofs.Common.{◌≡◌, ℕ, zero, suc, ◌+◌, ◌≤◌, ◌<◌, List, [], ◌∷◌, ◌++◌, refl, ap, sym, ◌∙◌, subst, arith, inl, inr, ◌⊎◌}
+use Rattle.std.proofs.Common.{◌≡◌, ℕ, zero, suc, ◌+◌, ◌≤◌, ◌<◌, List, [], ◌∷◌, ◌++◌, refl, ap, sym, subst, arith, inl, inr, ◌⊎◌}
 use Rattle.std.proofs.lemmas.List.{length-append}
 use Rattle.std.proofs.lemmas.List.Elements.{All-nil, All-cons, All-head, All-tail, All-append}
 use Rattle.std.specs.List.{All}
@@ -7,10 +7,10 @@ use Rattle.std.specs.Prelude.{true, length, map, slice_get, Option, None, Some}
 use Rattle.tall_value.specs.declared.class.Class.{Class}
 use Rattle.tall_value.specs.declared.functions.Method.{Method}
 use Rattle.tall_semantics.specs.Additions.{MayAdd}
-use Rattle.tall_semantics.specs.Deferred.{Vertex, AllBelow, IsAmong}
+use Rattle.tall_semantics.specs.Deferred.{Vertex, AllBelow}
 use Rattle.tall_semantics.specs.Faults.{At}
-use Rattle.tall_semantics.specs.Numbered.{AreStored, OfOneStore, MayShare, never_fails}
-use Rattle.tall_semantics.specs.Operations.{Op, constant, group, Part, stored, operation}
+use Rattle.tall_semantics.specs.Numbered.{MayShare, never_fails}
+use Rattle.tall_semantics.specs.Operations.{Op, constant, group, Part, operation}
 use Rattle.tall_script.specs.VertexLaws.{vertex, AllOf, Adds, one_operation, behind_a_scalar, over_columns, of_groups, IsLower, variable_of, MayStandBeside, MayFollow}
 
 abbrev some_vertex : Vertex → Option Vertex

@@ -1,13 +1,12 @@
 -- mapreduce: the map function over the blocks of a datastore, in order, on one store; then the reduce function over the
 -- keys, in the order of their first adding, on another. docs/LANGUAGE.md, mapreduce.
-use Rattle.std.specs.Prelude.{ℕ, List, [], ◌∷◌, ◌++◌, map, None, Some, Result, Ok, Err, codes}
+use Rattle.std.specs.Prelude.{ℕ, List, [], ◌∷◌, map, None, Some, Result, Ok, Err, codes}
 use Rattle.tall_value.specs.Cells.{Seen}
 use Rattle.tall_column.specs.Columns.{SeenColumn}
 use Rattle.tall_outside.specs.Shelf.{Files}
 use Rattle.tall_grammar.specs.Trees.{SeenFunction}
 use Rattle.tall_store.specs.declared.faults.ReadingFault.{ReadingFault}
 use Rattle.tall_store.specs.Blocks.{block_tables}
-use Rattle.tall_store.specs.Stores.{SeenStore}
 use Rattle.tall_local.specs.Refusals.{Stop}
 use Rattle.tall_local.specs.Memory.{Memory, table}
 use Rattle.tall_local.specs.Pairs.{Pair, keys_of, values_of, column_of_cells, key_of, value_of}

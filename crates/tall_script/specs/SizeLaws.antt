@@ -1,5 +1,5 @@
 -- Datastores with another ReadSize; states, statements and runs without a look at ReadSizes.
-use Rattle.std.specs.Prelude.{ℕ, Bool, true, false, List, map, Option, None, Some, Result, Ok, Err}
+use Rattle.std.specs.Prelude.{ℕ, Bool, false, List, map, Option, None, Some, Result, Ok, Err}
 use Rattle.std.specs.List.{list_all}
 use Rattle.tall_cut.specs.declared.cutter.ReadSize.{ReadSize}
 use Rattle.tall_cut.specs.declared.cutter.ReadSize.TheVariants.{File}

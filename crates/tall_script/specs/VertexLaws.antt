@@ -1,8 +1,7 @@
 -- What an expression of a script adds to a graph, which has a vertex for each tall column and tall scalar: an operation, an
 -- operator behind the scalar in memory that it meets, an operation over each column of a table, the columns of a `groupsummary`,
 -- or the variables of a datastore. An expression is evaluated after its parts and after all expressions of lower numbers.
-use Rattle.std.specs.Prelude.{◌≡◌, ◌<◌, ℕ, ◌+◌, true, List, [], ◌∷◌, ◌++◌, length, map}
-use Rattle.std.specs.List.{All}
+use Rattle.std.specs.Prelude.{◌≡◌, ◌<◌, ℕ, ◌+◌, true, List, [], ◌∷◌, ◌++◌, map}
 use Rattle.tall_value.specs.declared.class.Class.{Class}
 use Rattle.tall_value.specs.declared.functions.Method.{Method}
 use Rattle.tall_value.specs.Cells.{Seen}
@@ -10,7 +9,7 @@ use Rattle.tall_semantics.specs.Additions.{MayAdd}
 use Rattle.tall_semantics.specs.Deferred.{Vertex, AllBelow}
 use Rattle.tall_semantics.specs.Faults.{At}
 use Rattle.tall_semantics.specs.Numbered.{AreStored, OfOneStore, never_fails}
-use Rattle.tall_semantics.specs.Operations.{Op, constant, group, Part, Made, stored, operation}
+use Rattle.tall_semantics.specs.Operations.{Op, constant, group, Part, stored, operation}
 
 abbrev pub vertex : At → Op → List ℕ → Vertex
 vertex at o args = record { at = at; made = operation o; args = args }
