@@ -1,5 +1,5 @@
 -- The first script and the demo, from their bytes to what they print.
-use Rattle.std.proofs.Common.{◌≡◌, ℕ, List, [], ◌∷◌, refl, sym, subst}
+use Rattle.std.proofs.Common.{◌≡◌, [], ◌∷◌, refl, sym, subst}
 use Rattle.std.specs.Prelude.{⊤, Some, codes}
 use Rattle.std.proofs.Math.Utf8.{encode}
 use Rattle.std.specs.Str.{chars, is_utf8}
@@ -18,7 +18,7 @@ use Rattle.tall_grammar.proofs.OfBytes.{verdict_tells}
 use Rattle.tall_outside.specs.Shelf.{Files}
 use Rattle.tall_script.specs.Answers.{Answers, of_script}
 use Rattle.tall_words.specs.Commands.{command, run_demo}
-use Rattle.tall_words.specs.Demo.{demo_files, rows_text, script_text}
+use Rattle.tall_words.specs.Demo.{rows_text, script_text}
 use Rattle.tall_answer.specs.CommandAnswers.{AnswersAsked, AnswersWords, of_command}
 use Rattle.tall_script_rows.specs.DemoRun.{demo_words, demo_script, demo_answer}
 use Rattle.tall_script_rows.specs.Drafts.{script, shown, silent, sets, call, member, name, text, texts}

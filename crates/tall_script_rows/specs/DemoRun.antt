@@ -1,5 +1,5 @@
 -- The demo over five rows, by the words that ask for it.
-use Rattle.std.specs.Prelude.{ℕ, List, [], ◌∷◌, codes}
+use Rattle.std.specs.Prelude.{List, [], ◌∷◌, codes}
 use Rattle.clap.specs.Words.{Text}
 use Rattle.tall_answer.specs.CommandAnswers.{CommandAnswer, done}
 use Rattle.tall_grammar.specs.Trees.{SeenScript}

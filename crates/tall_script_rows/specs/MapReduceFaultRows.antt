@@ -1,12 +1,11 @@
 -- The order of keys, values and faults in mapreduce, by computation.
 use Prim.Native.String.{String}
 use Rattle.std.specs.Prelude.{◌≡◌, ℕ, List, [], ◌∷◌, codes, refl, None}
-use Rattle.tall_grammar.specs.Trees.{Step, Steps, Arms, Tree, SeenFunction, SeenScript, while_step, assign_step, add_step, if_step, no_arms, and_arm, no_steps}
+use Rattle.tall_grammar.specs.Trees.{Step, Tree, SeenFunction, SeenScript, while_step, assign_step, add_step, if_step, no_arms, and_arm, no_steps}
 use Rattle.tall_grammar.specs.declared.expressions.Infix.TheVariants.{Eq}
 use Rattle.tall_grammar.specs.Refusals.{read}
-use Rattle.tall_outside.specs.Shelf.{Files}
-use Rattle.tall_script.specs.Answers.{Answer, answer_of}
-use Rattle.tall_script_rows.specs.RowWords.{whole_runs, over, prints, fails, map_parameters}
+use Rattle.tall_script.specs.Answers.{answer_of}
+use Rattle.tall_script_rows.specs.RowWords.{whole_runs, over, prints, fails}
 use Rattle.tall_script_rows.specs.Drafts.{number, text, name, handle, infix_of, member, index, texts, call, shown, silent, sets, steps, function_from, parameter, script_with, with_line}
 
 -- data.x(1)
