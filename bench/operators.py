@@ -5,7 +5,8 @@ bench/operators.py [--rows N] [--runs R] [--seconds S] [--only WORD]
 It builds crates/bench_rows where it has to, writes a C program with one loop for each case (bench/out/operators.c) and
 builds it with clang or gcc -O3 for the same processor. A case is an operator, a class and what the column meets: a second
 column of the class, a double scalar, or nothing. Each program runs so many turns over N rows that it takes S seconds, and
-none; printed are the least processor nanoseconds a row of R runs of each program in turn, and their ratio. Both allocate
+none; printed are the least processor nanoseconds a row of R runs of each program in turn, and their ratio, and then a table of
+ours with the ratio in brackets. Both allocate
 the result of each turn, and both must print the same last cell.
 
 By hand, an integer is computed in a wider machine integer and moved to the nearer end; a double is C's double, and the loop
@@ -274,7 +275,7 @@ def main():
         cells = []
         for name in NUMBERS:
             pair = rows.get((op, name, other))
-            cells.append("" if pair is None else f"{pair[0]:.2f} / {pair[1]:.2f} = {pair[0] / max(pair[1], 1e-3):.1f}")
+            cells.append("" if pair is None else f"{pair[0]:.2f} ({pair[0] / max(pair[1], 1e-3):.1f})")
         print(f"| {op} {'' if other == '-' else other} | " + " | ".join(cells) + " |")
 
 

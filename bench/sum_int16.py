@@ -95,4 +95,5 @@ def main():
         print(f"mawk takes {best['mawk'][0] / best['tallrun'][0]:.2f} times as long as tallrun")
 
 
-main()
+if __name__ == "__main__":
+    main()

@@ -14,6 +14,3 @@ pub use tall_grammar::{
     Arg, Arm, Expr, Form, Function, FunctionStep, Infix, Node, ParseFault, Prefix, Script,
     Statement,
 };
-
-#[cfg(test)]
-mod tests;

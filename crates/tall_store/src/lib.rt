@@ -1,8 +1,6 @@
 //! Datastores: options, the names and formats of variables, and blocks of records as columns.
 #![tactic(auto)]
 
-#[cfg(test)]
-mod cases;
 mod choices;
 mod columns;
 #[cfg(test)]
@@ -21,8 +19,6 @@ mod part;
 mod properties;
 mod record;
 mod store;
-#[cfg(test)]
-mod tests;
 mod texts;
 mod values;
 

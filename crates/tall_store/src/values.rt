@@ -1,19 +1,20 @@
 //! The values of fields.
-ghost use Rattle.std.specs.Prelude.{◌≡◌, refl};
+ghost use Rattle.std.specs.Prelude.{◌≡◌, IfSome, Some, false, refl};
 ghost use Rattle.std.specs.List.{list_any};
 ghost use Rattle.std.specs.Str.{bytes_eq};
 ghost use Rattle.std.specs.Result.{result_map_both};
 ghost use Rattle.tall_store.specs.declared.format.Format.{Format};
 ghost use Rattle.tall_store.specs.declared.format.Format.TheVariants as format;
 ghost use Rattle.tall_store.specs.Formats.{class_of_format, class_of_integers, integer_format};
-ghost use Rattle.tall_store.specs.Fields.{double_number, field_value, integer_number, is_missing, number_fault, utf8_text};
+ghost use Rattle.tall_store.specs.Fields.{double_number, field_value, integer_number, is_missing, number_fault, spelled_double, utf8_text};
+ghost use Rattle.tall_num.specs.Spelling.{spells};
 
 use crate::faults::ReadingKind;
 use std::marker::PhantomData;
 use std::str::from_utf8;
 use tall_column::{Integer, Stored};
 use tall_int::{IntClass, Whole, WholeFault};
-use tall_num::{read_field, to_class, to_whole, trim_blanks};
+use tall_num::{Field, read_field, to_class, to_whole, trim_blanks};
 use tall_value::Text;
 
 /// Whether one of the spellings is these bytes.
@@ -33,10 +34,27 @@ pub(crate) fn is_missing(missing: &[Text], bytes: &[u8]) -> bool
     text.is_empty() || is_spelling(missing, text)
 }
 
+/// The number field, where it can't be missing: there is no spelling for it, and it spells a number. Most fields are such.
+fn read_unless_missing<'a>(missing: &[Text], bytes: &'a [u8]) -> Option<Field<'a>>
+    ensures there { IfSome result (λ field. is_missing missing.now bytes.now ≡ false) }
+    ensures spells { IfSome result (λ field. spells bytes.now ≡ Some field) }
+{
+    if !missing.is_empty() {
+        return None;
+    }
+    match read_field(bytes) {
+        Ok(field) => Some(field),
+        Err(_) => None,
+    }
+}
+
 /// The number of a field in an integer class.
 fn read_integer<I: IntClass>(missing: &[Text], bytes: &[u8]) -> Result<I, ReadingKind>
     ensures { result_map_both (λ n. I.number n) (λ e. e) result ≡ integer_number I.MIN I.MAX missing.now bytes.now }
 {
+    if let Some(field) = read_unless_missing(missing, bytes) {
+        return Ok(to_class(field));
+    }
     if is_missing(missing, bytes) {
         return Ok(I::from_wide(0));
     }
@@ -56,18 +74,28 @@ fn number_fault(fault: WholeFault) -> ReadingKind
     }
 }
 
+/// A number field as a double.
+fn double_of(field: Field<'_>) -> Result<Whole, ReadingKind>
+    ensures { result ≡ spelled_double (Some field.entry) }
+{
+    match to_whole(field) {
+        Ok(number) => Ok(number),
+        Err(fault) => Err(number_fault(fault)),
+    }
+}
+
 /// The number of a field as a double.
 fn read_double(missing: &[Text], bytes: &[u8]) -> Result<Whole, ReadingKind>
     ensures { result ≡ double_number missing.now bytes.now }
 {
+    if let Some(field) = read_unless_missing(missing, bytes) {
+        return double_of(field);
+    }
     if is_missing(missing, bytes) {
         return Ok(Whole::nan());
     }
     match read_field(bytes) {
-        Ok(field) => match to_whole(field) {
-            Ok(number) => Ok(number),
-            Err(fault) => Err(number_fault(fault)),
-        },
+        Ok(field) => double_of(field),
         Err(_) => Err(ReadingKind::BadField),
     }
 }

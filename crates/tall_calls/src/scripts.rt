@@ -1,9 +1,9 @@
 //! Scripts and refusals, against values that were written by hand, and scripts of the greatest length.
-use super::parse;
 use std::alloc::{AllocError, Global};
 use std::process::Abort;
 use std::test::Fail;
 use tall_grammar::ParseFault;
+use tall_parse::parse;
 
 /// The longest script that is read.
 const LONGEST: usize = 1_048_576;
