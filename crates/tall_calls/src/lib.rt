@@ -6,8 +6,6 @@
 #[cfg(test)]
 mod cases;
 #[cfg(test)]
-mod columns;
-#[cfg(test)]
 mod scripts;
 #[cfg(test)]
 mod stores;

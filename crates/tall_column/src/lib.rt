@@ -17,3 +17,6 @@ pub use column::Column;
 pub use rows::{map_binary, map_scalar, map_unary};
 pub use table::{Table, Value};
 pub use tall_dense::{Integer, OpFault, Operand, Stored, Texts, Values};
+
+#[cfg(test)]
+mod tests;

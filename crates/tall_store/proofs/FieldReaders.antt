@@ -6,7 +6,7 @@ use Rattle.std.proofs.lemmas.Bool.{eqb-true}
 use Rattle.tall_value.specs.declared.class.IntKind.{IntKind}
 use Rattle.tall_value.specs.declared.class.IntKind.TheVariants.{Int8, Int16, Int32, Int64, Uint8, Uint16, Uint32, Uint64}
 use Rattle.tall_value.specs.declared.faults.ReadingKind.{ReadingKind}
-use Rattle.tall_value.specs.Cells.{Seen, whole, text}
+use Rattle.tall_value.specs.Cells.{whole, text}
 use Rattle.tall_value.specs.Classes.{least, greatest}
 use Rattle.tall_store.specs.declared.format.Format.TheVariants.{Text}
 use Rattle.tall_num.specs.Spelling.{Spelling, is_empty, spells, text_spells, trimmed}

@@ -1,5 +1,5 @@
 use Rattle.std.proofs.Common.{◌≡◌}
-use Rattle.tall_calls.proofs.columns.column_of.Given as goal
+use Rattle.tall_column.proofs.tests.column_of.Given as goal
 
 abbrev pub invariant-loop-cell : goal.invariant-loop-cell
 invariant-loop-cell l = l.column.class ≡ l.fn.class

@@ -1,10 +1,9 @@
-//! Operators over the rows of columns, and a table, against values that were written by hand.
 ghost use Rattle.std.specs.Prelude.{◌≡◌, IfOk};
 
+use super::*;
 use std::alloc::{AllocError, Global};
 use std::process::Abort;
 use std::test::Fail;
-use tall_column::{Column, OpFault, Table, map_binary, map_scalar, map_unary};
 use tall_int::Whole;
 use tall_value::{Binary, Cell, CellFault, Class, Unary, result_class, unary_class};
 
