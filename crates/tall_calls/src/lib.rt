@@ -6,6 +6,8 @@
 #[cfg(test)]
 mod cases;
 #[cfg(test)]
+mod counting;
+#[cfg(test)]
 mod scripts;
 #[cfg(test)]
 mod stores;

@@ -5,6 +5,7 @@ ghost use Rattle.tall_cut.specs.Asked.{Asks};
 ghost use Rattle.tall_store.specs.FileEnds.{name_of_file};
 
 use crate::cases::CALLS;
+use crate::counting::count_records;
 use std::alloc::{AllocError, Global};
 use std::fmt::Write;
 use std::marker::Brand;
@@ -13,7 +14,9 @@ use std::test::Fail;
 use tall_column::Table;
 use tall_cut::{Lent, OpenedFile, ReadSize, Records};
 use tall_outside::{MemShelf, Shelf, has_distinct_names};
-use tall_store::{ColumnsFault, Datastore, Format, Options, ReadingFault, StoreFault};
+use tall_store::{
+    ColumnsFault, Datastore, FileEnd, FileRows, FileStep, Format, Options, ReadingFault, StoreFault,
+};
 use tall_value::{Cell, Class, Content};
 
 /// The texts of a list that commas part; none of an empty text.

@@ -3,8 +3,6 @@
 
 mod choices;
 mod columns;
-#[cfg(test)]
-mod counting;
 mod faults;
 mod file_end;
 mod file_rows;

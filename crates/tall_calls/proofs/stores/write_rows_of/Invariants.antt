@@ -1,5 +1,6 @@
 use Rattle.std.proofs.Common.{Some, ◌^◌}
 use Rattle.tall_cut.specs.Asked.{and_name, size_in}
+use Rattle.tall_store.specs.FileEnds.{name_of_file}
 use Rattle.tall_calls.proofs.stores.write_rows_of.Given as goal
 
 abbrev pub ghosts-write_file : goal.ghosts-write_file

@@ -3,7 +3,7 @@ use Rattle.tall_cut.specs.Finding.{raw_count, raw_records}
 use Rattle.tall_cut.specs.Rows.{TakesMany}
 use Rattle.tall_store.specs.FileSteps.{first_row, next_row, rows_left}
 use Rattle.tall_store.proofs.FileLemmas.{follows_block}
-use Rattle.tall_store.proofs.counting.count_left.Goals as goal
+use Rattle.tall_calls.proofs.counting.count_left.Goals as goal
 
 pub loop-block-preserved : goal.loop-block-preserved
 loop-block-preserved g c =

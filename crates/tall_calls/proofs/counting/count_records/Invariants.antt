@@ -1,7 +1,7 @@
 use Rattle.std.proofs.Common.{Some, ◌^◌}
 use Rattle.tall_cut.specs.Asked.{and_name, size_in}
 use Rattle.tall_store.specs.FileEnds.{name_of_file}
-use Rattle.tall_store.proofs.counting.count_records.Given as goal
+use Rattle.tall_calls.proofs.counting.count_records.Given as goal
 
 abbrev pub ghosts-count_file : goal.ghosts-count_file
 ghosts-count_file g a = record {

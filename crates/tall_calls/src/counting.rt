@@ -4,15 +4,13 @@ ghost use Rattle.tall_cut.specs.Asked.{Asks, size_in};
 ghost use Rattle.tall_store.specs.FileEnds.{IsReadWhole, name_of_file, walked_file};
 ghost use Rattle.tall_store.specs.FileSteps.{first_row, next_row, rows_left};
 
-use crate::file_end::FileEnd;
-use crate::file_rows::{FileRows, FileStep};
-use crate::store::Datastore;
 use std::marker::Brand;
 use tall_cut::{Lent, OpenedFile};
 use tall_outside::Shelf;
+use tall_store::{Datastore, FileEnd, FileRows, FileStep};
 
 /// Reads all that is left.
-#[tactic(auto, using(crate::proofs::FileLemmas::follows_first, crate::proofs::FileLemmas::follows_end))]
+#[tactic(auto, using(tall_store::proofs::FileLemmas::follows_first, tall_store::proofs::FileLemmas::follows_end))]
 fn count_left<'s, S: Shelf, K: OpenedFile>(rows: &mut FileRows<'s, S, K>) -> FileEnd
     requires limit { K.limit ≡ 2 ^ 50 }
     requires front { next_row rows.old ≡ first_row rows.old }

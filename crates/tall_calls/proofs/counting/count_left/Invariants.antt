@@ -1,7 +1,7 @@
 use Rattle.std.proofs.Common.{◌≡◌, ◌-◌, ◌^◌}
 use Rattle.tall_store.specs.FileSteps.{first_row, next_row, rows_left}
 use Rattle.tall_store.proofs.FileLemmas.{Follows}
-use Rattle.tall_store.proofs.counting.count_left.Given as goal
+use Rattle.tall_calls.proofs.counting.count_left.Given as goal
 
 -- the rows so far go with what is left
 abbrev pub invariant-loop-block : goal.invariant-loop-block

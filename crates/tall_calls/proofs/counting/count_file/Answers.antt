@@ -4,7 +4,7 @@ use Rattle.tall_store.specs.FileEnds.{IsReadWhole, name_of_file, walked_file}
 use Rattle.tall_store.specs.FileSteps.{rows_left}
 use Rattle.tall_store.specs.declared.file_end.FileEnd.{FileEnd}
 use Rattle.tall_store.proofs.FileLemmas.{all_counted}
-use Rattle.tall_store.proofs.counting.count_file.Goals as goal
+use Rattle.tall_calls.proofs.counting.count_file.Goals as goal
 
 pub returns-in-Ok-clause-all : goal.returns-in-Ok-clause-all
 returns-in-Ok-clause-all g c = λ n is.
