@@ -8,6 +8,7 @@ pub mod ValuesKept
 mod StopsKept
 mod FunctionStops
 pub mod StoreKept
+pub mod TableNames
 mod MemoryClasses
 mod ApplicationOperands
 mod LocalsHeld

@@ -32,11 +32,12 @@ use Rattle.tall_value.specs.Scans.{scanned}
 use Rattle.tall_value.specs.Index.{cell_at}
 use Rattle.tall_value.specs.CellOperators.{unary_cell, binary_cell}
 use Rattle.tall_value.specs.SummaryNames.{summary_names}
+use Rattle.tall_local.proofs.TableNames.{distinct_each, distinct_paired}
 use Rattle.tall_value.proofs.KindLaws.{kind_again, same_ok}
 use Rattle.tall_value.proofs.FunctionLaws.{unary_rows_kind, binary_rows_kind, scalar_left_kind, scalar_right_kind, scanned_kind, distinct_kind}
 use Rattle.tall_value.proofs.GroupLaws.{summary_kind}
 use Rattle.tall_column.specs.Columns.{SeenColumn, rows_kept}
-use Rattle.tall_column.specs.Tables.{column_named, height_of, HasHeight}
+use Rattle.tall_column.specs.Tables.{column_named, height_of, HasHeight, IsTable}
 use Rattle.tall_grammar.specs.Grammar.{are_distinct}
 use Rattle.tall_local.specs.Applications.{Operation, reduce, height, scan, head, tail, distinct, groups, unary, Application, constant, to_one, to_two}
 use Rattle.tall_local.specs.Arguments.{Index, rows_at, all_variables_at}
@@ -85,6 +86,11 @@ a_column k (Err e) h = tt
 either : (b : Bool) (q r : Result Memory Refusal) → Given q → Given r → Given (if b then q else r)
 either true q r h k = h
 either false q r h k = k
+
+-- where the test holds; else it is refused
+where_so : (b : Bool) (q r : Result Memory Refusal) → (b ≡ true → Given q) → Given r → Given (if b then q else r)
+where_so true q r h k = h refl
+where_so false q r h k = k
 
 -- ---- operators
 
@@ -184,7 +190,8 @@ module _ (f : List Seen → List Seen) (takes : TakesRows f) where
 
   some_of_table : (t : List (List ℕ × SeenColumn)) → CanBeHeld (table t) → CanBeHeld (table (each_named (with_cells f) t))
   some_of_table [] h = h
-  some_of_table (entry ∷ t) h = (each_classes (entry ∷ t) h.0, each_height entry.1.cells (entry ∷ t) h.1)
+  some_of_table (entry ∷ t) h =
+      (each_classes (entry ∷ t) h.0, record { distinct = distinct_each (with_cells f) (entry ∷ t) h.1.distinct; one_height = each_height entry.1.cells (entry ∷ t) h.1.one_height })
 
   some_rows : (v : Memory) → CanBeHeld v → Given (memory_rows f v)
   some_rows (scalar c) h = tt
@@ -321,12 +328,15 @@ own_height n (entry ∷ t) h = subst (λ m. HasHeight m (entry ∷ t)) (sym h.0)
 abbrev kinds_ok : List Kind → Result (List Kind) ClassFault
 kinds_ok ks = Ok ks
 
-summarised : (names : List (List ℕ)) (kinds : List Kind) (n : ℕ) (r : Result (List (List Seen)) FaultKind)
+summarised : (names : List (List ℕ)) (kinds : List Kind) (n : ℕ) (r : Result (List (List Seen)) FaultKind) → are_distinct names ≡ true
     → ((columns : List (List Seen)) → r ≡ columns_ok columns → HaveKinds kinds columns × AllHigh n columns) → Given (summary_result names (map class_of kinds) r)
-summarised names kinds n (Err e) k = tt
-summarised names kinds n (Ok columns) k =
+summarised names kinds n (Err e) apart k = tt
+summarised names kinds n (Ok columns) apart k =
     let w = k columns refl in
-    (paired_classes names kinds columns w.0, own_height n (paired names (columns_of (map class_of kinds) columns)) (paired_height n names (map class_of kinds) columns w.1))
+    let made = columns_of (map class_of kinds) columns in (
+      paired_classes names kinds columns w.0,
+      record { distinct = distinct_paired names made apart; one_height = own_height n (paired names made) (paired_height n names (map class_of kinds) columns w.1) },
+    )
 
 of_classes : (r : Result (List Kind) ClassFault) (f : List Class → Result Memory Refusal) → ((kinds : List Kind) → r ≡ kinds_ok kinds → Given (f (map class_of kinds))) → Given (with_classes (class_results r) f)
 of_classes (Ok kinds) f h = h kinds refl
@@ -336,8 +346,8 @@ a_summary : (m : Method) (names : List (List ℕ)) (g v : SeenColumn) → length
 a_summary m names g v e p q =
     let columns = summary_columns m (kind_of_column v) g.cells v.cells in
     of_classes (summary_kinds m (kind_of g.class) (kind_of v.class)) (λ classes. if_distinct names (summary_result names classes columns))
-    (λ kinds z. either (are_distinct names) (summary_result names (map class_of kinds) columns) (Err bad_argument)
-    (summarised names kinds (length (group_keys g.cells)) columns
+    (λ kinds z. where_so (are_distinct names) (summary_result names (map class_of kinds) columns) (Err bad_argument)
+    (λ apart. summarised names kinds (length (group_keys g.cells)) columns apart
     (λ made y. (summary_kind m (kind_of g.class) (kind_of v.class) kinds g.cells v.cells made e p q z y, summary_high m (kind_of_column v) g.cells v.cells made y))) tt)
 
 -- of variables of a table, which have its height
@@ -349,7 +359,7 @@ unfolding IsColumn
 a_variable t name h = there (column_named name t) refl (column_in name t h.0) where
   there : (o : Option SeenColumn) → column_named name t ≡ o → IsColumn o → OnGiven (IsVariable t) (or_refuse (undefined name) o)
   there None e i = tt
-  there (Some x) e i = (i, high_column (height_of t) name t x h.1 e)
+  there (Some x) e i = (i, high_column (height_of t) name t x h.1.one_height e)
 
 then_given : {A : Type 0} (Is : A → Type 0) (r : Result A Refusal) (f : A → Result Memory Refusal) → OnGiven Is r → ((a : A) → Is a → Given (f a)) → Given (and_then r f)
 then_given Is (Ok a) f h k = k a h

@@ -1,12 +1,12 @@
--- Values in memory that a column or a table can hold: the cells of a column have its class, and the columns of a table have
--- one height.
+-- Values in memory that a column or a table can hold: the cells of a column have its class, and a table has distinct names and
+-- columns of one height.
 use Rattle.std.specs.Prelude.{◌≡◌, ℕ, List, [], ◌∷◌, map, Result, Ok, Err}
 use Rattle.std.specs.List.{All}
 use Rattle.tall_value.specs.declared.class.Class.{Class}
 use Rattle.tall_value.specs.Classes.{kind_of}
 use Rattle.tall_value.specs.Columns.{HasKind}
 use Rattle.tall_column.specs.Columns.{SeenColumn}
-use Rattle.tall_column.specs.Tables.{height_of, HasHeight}
+use Rattle.tall_column.specs.Tables.{IsTable}
 use Rattle.tall_local.specs.Applications.{Application, constant, to_one, to_two}
 use Rattle.tall_local.specs.Locals.{Held, value, store, iterator, no_value, Locals}
 use Rattle.tall_local.specs.Expressions.{Valued, gives, stops}
@@ -23,7 +23,7 @@ HaveTheirClasses (entry ∷ t) = HasItsClass entry.1 × HaveTheirClasses t
 abbrev pub CanBeHeld : Memory → Type 0
 CanBeHeld (scalar c) = Unit {0}
 CanBeHeld (column x) = HasItsClass x
-CanBeHeld (table t) = HaveTheirClasses t × HasHeight (height_of t) t
+CanBeHeld (table t) = HaveTheirClasses t × IsTable t
 CanBeHeld (texts ts) = Unit {0}
 
 -- what an answer gives is so

@@ -67,8 +67,8 @@ pub fn a_store_keeps_its_rules()
     ensures calls { (f : SeenFunction) (arguments : List Held) (key_values : List Seen) (pairs : List Pair) → IsStore pairs → IsStore (call_of f arguments key_values pairs).pairs }
 {}
 
-/// Values in memory are such as columns and tables can hold: cells have the class of their column, and the columns of a table
-/// have one height. Operators, indexes and functions give such values of such values, and so do the expressions and statements of
+/// Values in memory are such as columns and tables can hold: cells have the class of their column, and a table has distinct names
+/// and columns of one height. Operators, indexes and functions give such values of such values, and so do the expressions and statements of
 /// a function. The table of `groupsummary` has the names and the classes that its tables say, and no column more or less.
 pub fn values_in_memory_have_their_classes()
     ensures unary { (op : Unary) (v : Memory) → CanBeHeld v → OnGiven CanBeHeld (memory_unary op v) }

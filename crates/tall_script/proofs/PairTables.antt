@@ -2,8 +2,12 @@
 use Rattle.std.proofs.Common.{◌≡◌, List, [], ◌∷◌, refl, ap, sym, ◌∙◌, subst}
 use Rattle.std.proofs.lemmas.List.{length-map}
 use Rattle.std.proofs.lemmas.List.Elements.{All-nil, All-cons}
-use Rattle.std.specs.List.{All}
-use Rattle.std.specs.Prelude.{length, map}
+use Rattle.std.proofs.lemmas.List.Kept.{AllPairs-cons}
+use Rattle.std.specs.List.{All, AllPairs}
+use Rattle.tall_column.specs.Columns.{SeenColumn}
+use Rattle.tall_column.specs.Tables.{AreApart}
+use Rattle.tall_local.proofs.TableNames.{no_names}
+use Rattle.std.specs.Prelude.{codes, length, map}
 use Rattle.tall_value.specs.declared.class.Kind.{Kind}
 use Rattle.tall_value.specs.declared.class.Kind.TheVariants.{Double}
 use Rattle.tall_value.specs.Cells.{Seen, seen_kind}
@@ -48,5 +52,14 @@ values_have [] h = All-nil (HasKind Double)
 values_have (p ∷ ps) h =
     of_class (seen_kind p.value) (map value_of (p ∷ ps)) (All-cons (HasKind (seen_kind p.value)) p.value (map value_of ps) refl (values_alike p ps h))
 
+one_name : (x : SeenColumn) → AllPairs AreApart ((codes "Value", x) ∷ [])
+one_name x = AllPairs-cons AreApart (codes "Value", x) [] (All-nil (AreApart (codes "Value", x))) no_names
+
 pub table_held : (out : List Pair) → IsStore out → CanBeHeld (pairs_table out)
-table_held out h = ((keys_have out h.classes, (values_have out h.classes, tt)), (refl, (one_height out, tt)))
+table_held out h = (
+  (keys_have out h.classes, (values_have out h.classes, tt)),
+  record {
+    distinct = AllPairs-cons AreApart (codes "Key", column_of_cells (map key_of out)) ((codes "Value", column_of_cells (map value_of out)) ∷ []) (All-cons (AreApart (codes "Key", column_of_cells (map key_of out))) (codes "Value", column_of_cells (map value_of out)) [] refl (All-nil (AreApart (codes "Key", column_of_cells (map key_of out))))) (one_name (column_of_cells (map value_of out)));
+    one_height = (refl, (one_height out, tt));
+  },
+)
