@@ -1,9 +1,9 @@
 -- What has no datastore's rows, but an operand that has them, needs all rows, and is no scan; and all its operands have them.
-use Rattle.std.specs.Prelude.{◌≡◌, refl, ℕ, Bool, true, false, Option, None, Some, List, [], ◌∷◌, map, slice_get}
+use Rattle.std.specs.Prelude.{◌≡◌, refl, ℕ, true, false, None, Some, List, [], ◌∷◌, map, slice_get}
 use Rattle.std.proofs.Common.{ap, sym, subst, ◌∙◌, inl, inr}
 use Rattle.tall_value.specs.declared.class.Class.{Class}
-use Rattle.tall_semantics.specs.Operations.{Op, constant, unary, binary, filter, reduce, scan, head, tail, distinct, group, Made, stored, operation}
-use Rattle.tall_semantics.specs.Spaces.{Space, kept, is_single, store_of}
+use Rattle.tall_semantics.specs.Operations.{Op, constant, unary, binary, filter, reduce, scan, head, tail, distinct, group, operation}
+use Rattle.tall_semantics.specs.Spaces.{Space, kept, store_of}
 use Rattle.tall_semantics.specs.Equality.{same_space}
 use Rattle.tall_semantics.specs.Shapes.{Shape, place_of, common, masked, on_column}
 use Rattle.tall_semantics.specs.Shapes as shaping

@@ -78,7 +78,7 @@ data_append key (k ∷ ks) js [] es h = absurd (omega (arith, h))
 data_append key (k ∷ ks) js (d ∷ ds) es h =
     ap (λ xs. if is_of_group key k then d ∷ xs else xs) (data_append key ks js ds es (omega (arith, h))) ∙ put_in_front (is_of_group key k) d (group_data key ks ds) (group_data key js es)
 
-data_alike : (key other : Seen) → ((c : Seen) → is_of_group key c ≡ is_of_group other c) → (ks ds : List Seen) → group_data key ks ds ≡ group_data other ks ds
+pub data_alike : (key other : Seen) → ((c : Seen) → is_of_group key c ≡ is_of_group other c) → (ks ds : List Seen) → group_data key ks ds ≡ group_data other ks ds
 data_alike key other same [] ds = refl
 data_alike key other same (k ∷ ks) [] = refl
 data_alike key other same (k ∷ ks) (d ∷ ds) =
@@ -89,7 +89,7 @@ is_equal Less h = absurd (cc)
 is_equal Equal h = refl
 is_equal Greater h = absurd (cc)
 
-of_one_group : (key other c : Seen) → is_of_group key other ≡ true → is_of_group key c ≡ is_of_group other c
+pub of_one_group : (key other c : Seen) → is_of_group key other ≡ true → is_of_group key c ≡ is_of_group other c
 of_one_group key other c h = ap is_eq (same_order key other c (is_equal (cell_order key other) h))
 
 -- equal cells are of one group
@@ -109,7 +109,7 @@ or_same true b h c = (let e : b ≡ true = sym h in ap (λ x. x || c) e)
 or_same false b h c = refl
 
 module _ (key : Seen) where
-  abbrev found : List Seen → Bool
+  abbrev pub found : List Seen → Bool
   found cs = list_any (is_of_group key) cs
 
   found_by : (c d : Seen) (ds : List Seen) (r : Ordering) → cell_order c d ≡ r → found (insert c ds) ≡ (is_of_group key c || found ds) → found (insert c (d ∷ ds)) ≡ (is_of_group key c || (is_of_group key d || found ds))
@@ -154,7 +154,7 @@ module _ (key : Seen) where
   found_parts (text t ∷ ks) =
       ap (λ b. is_of_group key (text t) || b) (found_parts ks) ∙ or_assoc (is_of_group key (text t)) (found (present ks)) (list_any is_nan ks && is_of_group key (double None))
 
-  found_keys : (ks : List Seen) → found (group_keys ks) ≡ found ks
+  pub found_keys : (ks : List Seen) → found (group_keys ks) ≡ found ks
   found_keys ks =
       list_any-append (is_of_group key) (ascending (present ks)) (nan_key (list_any is_nan ks))
       ∙ (ap (λ b. b || found (nan_key (list_any is_nan ks))) (found_ascending (present ks))
@@ -168,7 +168,7 @@ module _ (key : Seen) where
   second_false true b h = absurd (cc)
   second_false false b h = h
 
-  no_data : (ks ds : List Seen) → found ks ≡ false → group_data key ks ds ≡ []
+  pub no_data : (ks ds : List Seen) → found ks ≡ false → group_data key ks ds ≡ []
   no_data [] ds h = refl
   no_data (k ∷ ks) [] h = refl
   no_data (k ∷ ks) (d ∷ ds) h =
@@ -180,7 +180,7 @@ module _ (key : Seen) where
     at_by k ks false h none go =
         ap (λ b. if b then F k else at_key s (map (λ c. (c, F c)) ks) key) h ∙ go (λ e. none (ap (λ b. b || found ks) h ∙ e))
 
-    at_groups : (ks : List Seen) → (found ks ≡ false → s ≡ v) → at_key s (map (λ c. (c, F c)) ks) key ≡ v
+    pub at_groups : (ks : List Seen) → (found ks ≡ false → s ≡ v) → at_key s (map (λ c. (c, F c)) ks) key ≡ v
     at_groups [] none = none refl
     at_groups (k ∷ ks) none = at_by k ks (is_of_group key k) refl none (λ n. at_groups ks n)
 
@@ -202,15 +202,15 @@ at_any_key g b ks ds key =
     (group_keys ks)
     (λ none. sym (ap (kept_of g b) (no_data key ks ds (sym (found_keys key ks) ∙ none)) ∙ kept_nothing g b))
 
-map_alike : {A B : Type 0} (f g : A → B) → ((x : A) → f x ≡ g x) → (xs : List A) → map f xs ≡ map g xs
+pub map_alike : {A B : Type 0} (f g : A → B) → ((x : A) → f x ≡ g x) → (xs : List A) → map f xs ≡ map g xs
 map_alike f g same [] = refl
 map_alike f g same (x ∷ xs) = ap (λ y. y ∷ map f xs) (same x) ∙ ap (λ ys. g x ∷ ys) (map_alike f g same xs)
 
-map_map : {A B C : Type 0} (f : A → B) (g : B → C) (xs : List A) → map g (map f xs) ≡ map (λ x. g (f x)) xs
+pub map_map : {A B C : Type 0} (f : A → B) (g : B → C) (xs : List A) → map g (map f xs) ≡ map (λ x. g (f x)) xs
 map_map f g [] = refl
 map_map f g (x ∷ xs) = ap (λ ys. g (f x) ∷ ys) (map_map f g xs)
 
-map_itself : {A : Type 0} (xs : List A) → map (λ x. x) xs ≡ xs
+pub map_itself : {A : Type 0} (xs : List A) → map (λ x. x) xs ≡ xs
 map_itself [] = refl
 map_itself (x ∷ xs) = ap (λ ys. x ∷ ys) (map_itself xs)
 

@@ -24,4 +24,5 @@ pub mod EndOperandLaws
 pub mod SampleLaws
 pub mod BlockFoldLaws
 pub mod GatheredLaws
+pub mod PartLaws
 pub mod RowPlaceLaws

@@ -8,7 +8,7 @@ use Rattle.tall_value.specs.declared.functions.Reduction.TheVariants.{Sum, Min, 
 use Rattle.tall_value.specs.Cells.{Seen, whole, logical}
 use Rattle.tall_value.specs.Reductions.{lesser, is_nonzero}
 use Rattle.tall_semantics.specs.Samples.{number, nan}
-use Rattle.tall_blocks.specs.Folds.{exact_sum, least_cell, greatest_cell, some_true, all_true, number_of, value_of, best_joined, joined, class_sum, start, more, used, fold_of, omits, reduction_result, method_fold, method_omits, method_result}
+use Rattle.tall_blocks.specs.Folds.{exact_sum, least_cell, greatest_cell, some_true, all_true, number_of, value_of, best_joined, joined, class_sum, start, more, part_of, with_part, used, fold_of, omits, reduction_result, method_fold, method_omits, method_result}
 
 abbrev small : ℤ → Seen
 small n = whole Int8 n
@@ -23,6 +23,10 @@ all_of_int8 = refl
 
 second_of_int8 : more (class_sum Int8) (start (class_sum Int8)) (small (pos 100) ∷ small (negsuc 99) ∷ []) ≡ pos 0
 second_of_int8 = refl
+
+-- what the second part makes of the sum so far, made without it
+second_part : with_part (class_sum Int8) (pos 100) (part_of (class_sum Int8) (small (pos 100) ∷ small (negsuc 99) ∷ [])) ≡ pos 27
+second_part = refl
 
 native_sum : reduction_result (Sum true false) (Integer Int8) (pos 27) ≡ Ok (small (pos 27))
 native_sum = refl

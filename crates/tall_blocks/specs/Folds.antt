@@ -86,6 +86,21 @@ abbrev pub used : (passes_nan : Bool) → List Seen → List Seen
 used true cs = present cs
 used false cs = cs
 
+-- ---- the part of a block, made without what is kept so far
+
+-- of a sum in a class what the block's cells make of the sum so far
+abbrev pub Part : Fold → Type 0
+Part (by_parts p) = Value p
+Part (class_sum k) = ℤ → ℤ
+
+abbrev pub part_of : (g : Fold) → List Seen → Part g
+part_of (by_parts p) cs = value_of p cs
+part_of (class_sum k) cs = λ sum. clamped_sum (least k) (greatest k) sum (filter_map amount cs)
+
+abbrev pub with_part : (g : Fold) → Kept g → Part g → Kept g
+with_part (by_parts p) s t = joined p s t
+with_part (class_sum k) s t = t s
+
 -- ---- reductions
 
 abbrev pub native_fold : Kind → Fold

@@ -19,8 +19,8 @@ use Rattle.tall_semantics.specs.Faults.{At}
 use Rattle.tall_semantics.specs.Outcomes.{Outcome, rows, rows_in, cells_in, alone, part_of_group}
 use Rattle.tall_semantics.specs.Talls.{Tall}
 use Rattle.tall_blocks.specs.Carries.{Rows}
-use Rattle.tall_blocks.specs.Folds.{Kept, start, more, used, by_parts, number_of, every_cell, fold_of, omits, reduction_result, method_fold, method_omits, method_result}
-use Rattle.tall_blocks.specs.GroupsOver.{Groups, keys_of, groups_more}
+use Rattle.tall_blocks.specs.Folds.{Kept, Part, start, more, part_of, with_part, used, by_parts, number_of, every_cell, fold_of, omits, reduction_result, method_fold, method_omits, method_result}
+use Rattle.tall_blocks.specs.GroupsOver.{GroupParts, Groups, group_parts, groups_more, groups_with, keys_of}
 
 -- ---- by the operation, over an operand of a kind, or for a group over data of a kind
 
@@ -59,6 +59,42 @@ gathered_more (operations.binary op) a s x y = s
 gathered_more operations.filter a s x y = s
 gathered_more (operations.scan r) a s x y = s
 
+-- ---- the part of a block, made without what is kept so far
+
+abbrev pub BlockPart : Op → Kind → Type 0
+BlockPart (reduce r) a = Part (fold_of r a)
+BlockPart (head k) a = Rows
+BlockPart (tail k) a = Rows
+BlockPart operations.distinct a = List Seen
+BlockPart (group m part) a = GroupParts (by_parts (number_of every_cell)) × GroupParts (method_fold m a)
+BlockPart op a = Unit {0}
+
+abbrev pub block_part : (op : Op) (a : Kind) → (x y : Outcome) → BlockPart op a
+block_part (reduce r) a x y = part_of (fold_of r a) (used (omits r) (cells_in x))
+block_part (head k) a x y = first_rows k (rows_in x)
+block_part (tail k) a x y = last_rows k (rows_in x)
+block_part operations.distinct a x y = distinct (cells_in x)
+block_part (group m part) a x y = (group_parts (by_parts (number_of every_cell)) false (cells_in x) (cells_in x), group_parts (method_fold m a) (method_omits m) (cells_in x) (cells_in y))
+block_part (operations.constant c) a x y = record {}
+block_part (operations.unary op) a x y = record {}
+block_part (operations.binary op) a x y = record {}
+block_part operations.filter a x y = record {}
+block_part (operations.scan s) a x y = record {}
+
+abbrev pub gathered_with : (op : Op) (a : Kind) → Gathered op a → BlockPart op a → Gathered op a
+gathered_with (reduce r) a s t = with_part (fold_of r a) s t
+gathered_with (head k) a s t = first_rows k (s ++ t)
+gathered_with (tail k) a s t = last_rows k (s ++ t)
+gathered_with operations.distinct a s t = distinct (s ++ t)
+gathered_with (group m part) a s t = (groups_with (by_parts (number_of every_cell)) s.0 t.0, groups_with (method_fold m a) s.1 t.1)
+gathered_with (operations.constant c) a s t = s
+gathered_with (operations.unary op) a s t = s
+gathered_with (operations.binary op) a s t = s
+gathered_with operations.filter a s t = s
+gathered_with (operations.scan r) a s t = s
+
+-- ---- at the end
+
 abbrev pub or_one : Result (List Seen) FaultKind → Result (List (List Seen)) FaultKind
 or_one (Ok values) = Ok (values ∷ [])
 or_one (Err e) = Err e
@@ -71,7 +107,6 @@ group_column m a es = or_one (all_values (map (λ (e : Seen × Kept (method_fold
 abbrev pub gathered_columns : (m : Method) (a : Kind) → Groups (by_parts (number_of every_cell)) → Groups (method_fold m a) → Result (List (List Seen)) FaultKind
 gathered_columns m a counts values = in_front (keys_of counts) (in_front (map (λ (e : Seen × ℕ). double (Some (pos e.1))) counts) (group_column m a values))
 
--- at the end
 abbrev pub gathered_outcome : At → (op : Op) (a : Kind) → Gathered op a → Outcome
 gathered_outcome at (reduce r) a s = alone at (reduction_result r a s)
 gathered_outcome at (head k) a s = rows s

@@ -3,7 +3,7 @@
 use Rattle.std.specs.Prelude.{Bool, if◌then◌else◌, List, [], ◌∷◌, ◌++◌, map}
 use Rattle.tall_value.specs.Cells.{Seen}
 use Rattle.tall_value.specs.Groups.{group_keys, group_data, is_of_group}
-use Rattle.tall_blocks.specs.Folds.{PartFold, Fold, by_parts, Kept, start, more, joined, used}
+use Rattle.tall_blocks.specs.Folds.{PartFold, Fold, by_parts, Kept, Part, start, more, part_of, with_part, joined, used}
 
 abbrev pub Groups : Fold → Type 0
 Groups g = List (Seen × Kept g)
@@ -30,3 +30,14 @@ groups_more g passes_nan es keys data' = map (λ key. (key, more g (at_key (star
 -- the groups of some rows and those of others as the groups of both
 abbrev pub groups_joined : (p : PartFold) → Groups (by_parts p) → Groups (by_parts p) → Groups (by_parts p)
 groups_joined p es ds = map (λ key. (key, joined p (at_key (start (by_parts p)) es key) (at_key (start (by_parts p)) ds key))) (group_keys (keys_of es ++ keys_of ds))
+
+-- ---- the part of a block: its keys, each with the part of its data
+
+abbrev pub GroupParts : Fold → Type 0
+GroupParts g = List (Seen × Part g)
+
+abbrev pub group_parts : (g : Fold) (passes_nan : Bool) → (keys data' : List Seen) → GroupParts g
+group_parts g passes_nan keys data' = map (λ key. (key, part_of g (used passes_nan (group_data key keys data')))) (group_keys keys)
+
+abbrev pub groups_with : (g : Fold) → Groups g → GroupParts g → Groups g
+groups_with g es parts = map (λ key. (key, with_part g (at_key (start g) es key) (at_key (part_of g []) parts key))) (group_keys (keys_of es ++ keys_of parts))

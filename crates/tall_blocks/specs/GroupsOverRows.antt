@@ -5,7 +5,7 @@ use Rattle.tall_value.specs.declared.class.IntKind.TheVariants.{Int8}
 use Rattle.tall_value.specs.Cells.{Seen, whole}
 use Rattle.tall_semantics.specs.Samples.{number, nan}
 use Rattle.tall_blocks.specs.Folds.{exact_sum, number_of, every_cell, by_parts, class_sum}
-use Rattle.tall_blocks.specs.GroupsOver.{groups_of, at_key, keys_of, groups_more, groups_joined}
+use Rattle.tall_blocks.specs.GroupsOver.{groups_of, at_key, group_parts, keys_of, groups_more, groups_joined, groups_with}
 
 abbrev keys : List Seen
 keys = number (pos 3) ∷ number (pos 1) ∷ number (pos 3) ∷ []
@@ -47,3 +47,10 @@ rows_of_groups = refl
 -- a sum in int8 goes on from 120 to 127
 in_class : groups_more (class_sum Int8) false ((number (pos 1), pos 120) ∷ []) others (whole Int8 (pos 20) ∷ whole Int8 (pos 7) ∷ []) ≡ (number (pos 1), pos 127) ∷ (nan, pos 7) ∷ []
 in_class = refl
+
+-- the same from the part of the others' rows, made without the groups so far
+with_part_of_others : groups_with (by_parts exact_sum) first_groups (group_parts (by_parts exact_sum) false others other_amounts) ≡ all_groups
+with_part_of_others = refl
+
+part_in_class : groups_with (class_sum Int8) ((number (pos 1), pos 120) ∷ []) (group_parts (class_sum Int8) false others (whole Int8 (pos 20) ∷ whole Int8 (pos 7) ∷ [])) ≡ (number (pos 1), pos 127) ∷ (nan, pos 7) ∷ []
+part_in_class = refl

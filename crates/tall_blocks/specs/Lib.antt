@@ -8,6 +8,7 @@ pub mod Pieces
 pub mod PassWork
 pub mod LevelWork
 pub mod Folds
+pub mod ScanFolds
 pub mod GroupsOver
 pub mod FoldsOfBlocks
 pub mod Gathered

@@ -12,11 +12,15 @@ ghost use Rattle.tall_semantics.specs.Outcomes.{Outcome, cells_in, rows_in};
 ghost use Rattle.tall_semantics.specs.Talls.{Columns, Tall};
 ghost use Rattle.tall_semantics.specs.Deferred.{IsAmong, Vertex, fault_in};
 ghost use Rattle.tall_blocks.specs.Blocks.{Block};
-ghost use Rattle.tall_blocks.specs.Folds.{Fold, fold_of, omits, reduction_result, start};
+ghost use Rattle.tall_blocks.specs.Folds.{Fold, Kept, fold_of as fold_of_reduction, more, omits, part_of, reduction_result, start, used, with_part};
 ghost use Rattle.tall_blocks.specs.FoldsOfBlocks.{distinct_of_blocks, first_of_blocks, groups_of_blocks, kept_of_blocks, last_of_blocks};
-ghost use Rattle.tall_blocks.specs.Gathered.{Gathered, end_outcome, gathered_from, gathered_more};
+ghost use Rattle.tall_blocks.specs.Gathered.{Gathered, block_part, end_outcome, gathered_from, gathered_more, gathered_with};
 ghost use Rattle.tall_blocks.specs.GroupsOver.{groups_of};
 ghost use Rattle.tall_blocks.specs.Pieces.{pass_blocks};
+ghost use Rattle.tall_blocks.specs.ScanFolds.{carry_result, scan_fold, scan_omits};
+ghost use Rattle.tall_semantics.specs.ScanCarries.{fold_of};
+ghost use Rattle.tall_value.specs.declared.functions.Scan.{Scan};
+ghost use Rattle.tall_value.specs.Cells.{Seen};
 ghost use Rattle.tall_blocks.specs.SeenFaults.{IsBlockwise};
 ghost use Rattle.tall_blocks.specs.ValuesOver.{block_outcomes, no_cells};
 
@@ -25,7 +29,7 @@ ghost use Rattle.tall_blocks.specs.ValuesOver.{block_outcomes, no_cells};
 pub fn functions_of_columns_go_on_block_by_block()
     ensures reductions { (columns : Columns) (of_stores : ℕ → List ℕ) (vs : List Vertex) (f : ℕ → Tall) (store : ℕ) (cut : ℕ → Bool) (bs : List Block) → IsBlockwise columns of_stores vs f store cut bs
         → (i : ℕ) (v : Vertex) → slice_get vs i ≡ Some v → cut i ≡ true → fault_in f i ≡ None
-        → (r : Reduction) (a : Kind) → reduced r a (cells_in (f i).outcome) ≡ reduction_result r a (kept_of_blocks (fold_of r a) (omits r) (start (fold_of r a)) (block_outcomes vs f cut no_cells bs) i) }
+        → (r : Reduction) (a : Kind) → reduced r a (cells_in (f i).outcome) ≡ reduction_result r a (kept_of_blocks (fold_of_reduction r a) (omits r) (start (fold_of_reduction r a)) (block_outcomes vs f cut no_cells bs) i) }
     ensures first { (columns : Columns) (of_stores : ℕ → List ℕ) (vs : List Vertex) (f : ℕ → Tall) (store : ℕ) (cut : ℕ → Bool) (bs : List Block) → IsBlockwise columns of_stores vs f store cut bs
         → (i : ℕ) (v : Vertex) → slice_get vs i ≡ Some v → cut i ≡ true → fault_in f i ≡ None
         → (k : ℕ) → first_rows k (rows_in (f i).outcome) ≡ first_of_blocks k [] (block_outcomes vs f cut no_cells bs) i }
@@ -47,5 +51,8 @@ pub fn values_that_need_all_rows_go_on_block_by_block()
     ensures value { (columns : Columns) (of_stores : ℕ → List ℕ) (vs : List Vertex) (f : ℕ → Tall) (store : ℕ) (cut : ℕ → Bool) (bs : List Block) → IsBlockwise columns of_stores vs f store cut bs
         → (i : ℕ) (v : Vertex) (op : Op) → slice_get vs i ≡ Some v → v.made ≡ operation op → needs_all_rows v.made ≡ true → is_scan v.made ≡ false
         → ((a : ℕ) → IsAmong v.args a → (cut a ≡ true) × (fault_in f a ≡ None)) → (f i).outcome ≡ end_outcome v.at f (pass_blocks vs f cut bs) op v.args }
+    ensures parts { (op : Op) (a : Kind) (s : Gathered op a) (x y : Outcome) → gathered_more op a s x y ≡ gathered_with op a s (block_part op a x y) }
+    ensures carries { (s : Scan) (a : Kind) (cs : List Seen) → fold_of s a cs ≡ carry_result s a (more (scan_fold s a) (start (scan_fold s a)) (used (scan_omits s a) cs)) }
+    ensures carry_parts { (g : Fold) (s : Kept g) (cs : List Seen) → more g s cs ≡ with_part g s (part_of g cs) }
     ensures one_more { (op : Op) (a : Kind) (s : Gathered op a) (h : ℕ → Outcome) (hs : List (ℕ → Outcome)) (i j : ℕ) → gathered_from op a s (h ∷ hs) i j ≡ gathered_from op a (gathered_more op a s (h i) (h j)) hs i j }
 {}
