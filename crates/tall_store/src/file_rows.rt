@@ -136,7 +136,8 @@ fn check_header<'s, S: Shelf, K: OpenedFile>(
 // The row behind so many records from a row on; none where the first of them would have the row numbered 2^40 or a later one.
 fn row_behind(row: u64, count: u64) -> Option<u64>
     ensures some { IfSome result (λ n. (n ≡ row + count) × (row < 2 ^ 40)) }
-    ensures none { IfNone result (0 < count → 2 ^ 40 < row + count) }
+    ensures none { IfNone result (2 ^ 40 ≤ row + count) }
+    ensures beyond { IfNone result (0 < count → 2 ^ 40 < row + count) }
 {
     if row < ROW_LIMIT {
         row.checked_add(count)
