@@ -2,3 +2,4 @@ pub mod Values
 pub mod Columns
 pub mod Indexes
 pub mod Ends
+pub mod Shapes

@@ -4,6 +4,7 @@
 //! or the refusal. Operands are lent, so no function takes a value away.
 #![tactic(auto)]
 
+mod applications;
 mod arguments;
 mod ends;
 mod faults;
@@ -11,6 +12,7 @@ mod indexing;
 mod operators;
 mod values;
 
+pub use applications::{Application, Operation, application_of};
 pub use faults::MemoryFault;
 pub use indexing::{Index, constant_named, memory_index, memory_member};
 pub use operators::{memory_binary, memory_infix, memory_prefix, memory_unary};
