@@ -68,6 +68,20 @@ class_is CumMax Logical class h = absurd cc
 class_is CumMax Double class h = sym (same_ok _ _ h)
 class_is CumMax Text class h = absurd cc
 
+made_is : (op : Scan) (a : Kind) → IsOk (class_result (scan_kind op a)) → class_result (scan_kind op a) ≡ Ok (class_of (result_kind a))
+made_is CumSum (Integer j) takes = refl
+made_is CumSum Logical takes = refl
+made_is CumSum Double takes = refl
+made_is CumSum Text takes = absurd (ok_not takes)
+made_is CumMin (Integer j) takes = refl
+made_is CumMin Logical takes = absurd (ok_not takes)
+made_is CumMin Double takes = refl
+made_is CumMin Text takes = absurd (ok_not takes)
+made_is CumMax (Integer j) takes = refl
+made_is CumMax Logical takes = absurd (ok_not takes)
+made_is CumMax Double takes = refl
+made_is CumMax Text takes = absurd (ok_not takes)
+
 module _ (op : Scan) (a : Kind) (cs : List Seen) (n : ℕ) (k : Kept) (made : Class) (takes : IsOk (class_result (scan_kind op a))) (kind : made ≡ class_of (result_kind a))
     (rows : n ≡ length cs) (is : IsKeptOf (scan_fold op a) a cs k) where
   kind_is : kind_of made ≡ result_kind a
@@ -83,10 +97,11 @@ module _ (op : Scan) (a : Kind) (cs : List Seen) (n : ℕ) (k : Kept) (made : Cl
         result_is = subst IsResult (sym kind_is) (result_is op a takes);
       }
 
-  pub carry_is : (class : Class) → class_result (scan_kind op a) ≡ Ok class → IsCarry op class cs (view op made n k)
-  carry_is class h =
-      let same : made ≡ class = kind ∙ sym (class_is op a class h) in
-      record { operation = refl; class_is = same; rows = rows; comes = subst (λ (c : Class). ComesTo (scan_fold op (kind_of c)) (kind_of c) cs k) same fold_is.comes }
+  pub carry_is : IsCarry op made cs (view op made n k)
+  carry_is = record { operation = refl; class_is = refl; rows = rows; comes = fold_is.comes }
+
+  pub class_made : class_result (scan_kind op a) ≡ Ok made
+  class_made = made_is op a takes ∙ ap Ok (sym kind)
 
 -- ---- join
 

@@ -7,3 +7,4 @@ pub mod RunningLemmas
 pub mod CarryLemmas
 pub mod ScanLemmas
 pub mod WholeLemmas
+pub mod PairLemmas

@@ -2,3 +2,4 @@ pub mod Forms
 pub mod PickLaws
 pub mod Summaries
 pub mod Carries
+pub mod FirstAndLast

@@ -47,7 +47,8 @@ impl Carry {
     pub(crate) fn of_column(operation: Scan, column: &Column) -> Carry
         requires takes { IsOk (scan_class operation column.now.class) }
         requires few { length column.now.cells < 2 ^ 40 }
-        ensures { (class : Class) → scan_class operation column.now.class ≡ Ok class → IsCarry operation class column.now.cells result }
+        ensures class { scan_class operation column.now.class ≡ Ok result.class }
+        ensures carry { IsCarry operation result.class column.now.cells result }
     {
         let kind = column.class().kind();
         Carry {
@@ -61,7 +62,8 @@ impl Carry {
     /// The carry of one row with this cell, of a class that the scan takes.
     pub fn of(operation: Scan, cell: &Cell<'_>) -> Carry
         requires { IsOk (scan_class operation (class_of_cell (seen cell.now))) }
-        ensures { (class : Class) → scan_class operation (class_of_cell (seen cell.now)) ≡ Ok class → IsCarry operation class (seen cell.now ∷ []) result }
+        ensures class { scan_class operation (class_of_cell (seen cell.now)) ≡ Ok result.class }
+        ensures carry { IsCarry operation result.class (seen cell.now ∷ []) result }
     {
         Carry {
             operation,

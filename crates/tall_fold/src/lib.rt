@@ -3,8 +3,10 @@
 
 mod carried;
 mod carries;
+mod ends;
 mod kept;
 mod laws;
+mod pairs;
 mod pick;
 mod results;
 mod running;
@@ -14,6 +16,7 @@ mod summary;
 mod values;
 
 pub use carries::Carry;
+pub use ends::Ends;
 pub use laws::scans_are_of_the_whole;
-pub use scans::carry;
+pub use scans::{carry, scan};
 pub use summary::{Summary, summarise};

@@ -1,6 +1,5 @@
 //! Scans of blocks of a column.
 ghost use Rattle.std.specs.Prelude.{◌≡◌, ◌+◌, ◌<◌, ◌^◌, IfOk, IsOk, List, Ok, length, map};
-ghost use Rattle.tall_value.specs.declared.class.Class.{Class};
 ghost use Rattle.tall_value.specs.declared.class.Class.TheVariants as class;
 ghost use Rattle.tall_value.specs.declared.functions.Scan.{Scan};
 ghost use Rattle.tall_value.specs.declared.functions.Scan.TheVariants.{CumSum};
@@ -34,7 +33,8 @@ use tall_value::Scan;
 pub fn carry(operation: Scan, column: &Column) -> Carry
     requires takes { IsOk (scan_class operation column.now.class) }
     requires few { length column.now.cells < 2 ^ 40 }
-    ensures { (class : Class) → scan_class operation column.now.class ≡ Ok class → IsCarry operation class column.now.cells result }
+    ensures class { scan_class operation column.now.class ≡ Ok result.class }
+    ensures carry { IsCarry operation result.class column.now.cells result }
 {
     Carry::of_column(operation, column)
 }
