@@ -60,11 +60,7 @@ fn converted<T: Stored>(alloc: Global, op: Unary, items: &[T]) -> Result<Values,
 }
 
 /// The operators of a column of an integer class.
-fn each_integer<I: Integer>(
-    alloc: Global,
-    op: Unary,
-    items: &[I],
-) -> Result<Values, OpFault>
+fn each_integer<I: Integer>(alloc: Global, op: Unary, items: &[I]) -> Result<Values, OpFault>
     ensures { Answers (unary_rows op (numbered 0 (map (λ x. whole I.KIND (I.number x)) items.now))) (λ v. (shown v).cells) result }
 {
     match op {
