@@ -6,4 +6,3 @@ mod known;
 mod parts;
 
 pub use known::Known;
-
