@@ -1,6 +1,6 @@
 -- Rows of columns in memory are numbered from 1, those of a loop from 0.
 use Rattle.std.proofs.Common.{◌≡◌, ◌<◌, ◌+◌, ◌∙◌, ℕ, refl, sym, ap, subst, arith, length, eq-eqb}
-use Rattle.std.specs.Prelude.{Bool, true, false, ◌==◌, if◌then◌else◌, List, [], ◌∷◌, map, Some, Result, Ok, Err, IfOk}
+use Rattle.std.specs.Prelude.{Bool, true, false, ◌==◌, if◌then◌else◌, List, [], ◌∷◌, map, Result, Ok, Err, IfOk}
 use Rattle.std.proofs.lemmas.Bool.{eqb-true}
 use Rattle.tall_value.specs.declared.class.Class.{Class}
 use Rattle.tall_value.specs.declared.class.IntKind.TheVariants.{Int8, Int16, Int32, Int64, Uint8, Uint16, Uint32, Uint64}
@@ -15,20 +15,18 @@ use Rattle.tall_value.specs.declared.operators.Unary.{Unary}
 use Rattle.tall_column.specs.Mapped.{scalar_class}
 use Rattle.tall_value.specs.ClassTables.{binary_class, binary_kind, class_result, unary_class, unary_kind}
 use Rattle.tall_value.specs.Columns.{numbered, cells}
-use Rattle.tall_value.specs.Elementwise.{in_front, at_row, each_row, each_pair}
-use Rattle.tall_value.specs.Reductions.{data_fault}
+use Rattle.tall_value.specs.Elementwise.{at_row, each_row, each_pair}
 use Rattle.tall_column.specs.Columns.{SeenColumn}
 use Rattle.tall_dense.specs.Rows.{Answers}
 use Rattle.tall_dense.specs.declared.faults.OpFault.{OpFault}
 use Rattle.tall_dense.specs.declared.faults.OpFault.TheVariants as op
 use Rattle.tall_local.specs.Memory.{Memory, column}
 use Rattle.tall_local.specs.MemoryOperators.{with_kind, scalar_result, column_result, if_equal_lengths}
-use Rattle.tall_local.specs.Refusals.{Refusal, bad_size, failed, refused_class}
+use Rattle.tall_local.specs.Refusals.{Refusal, bad_size, refused_class}
 use Rattle.tall_memory.specs.declared.faults.MemoryFault.{MemoryFault}
-use Rattle.tall_memory.specs.declared.faults.MemoryFault.TheVariants as fault
 use Rattle.tall_memory.specs.declared.values.MemoryValue.{MemoryValue}
 use Rattle.tall_memory.specs.Columns.{IsFaultBelow, IsOfColumn, beside_kind}
-use Rattle.tall_memory.specs.Values.{Gives, value_seen}
+use Rattle.tall_memory.specs.Values.{Gives}
 
 pub kind_back : (k : Kind) → kind_of (class_of k) ≡ k
 kind_back (Integer Int8) = refl

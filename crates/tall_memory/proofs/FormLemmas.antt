@@ -1,22 +1,21 @@
 -- Forms of arguments.
-use Rattle.std.proofs.Common.{◌≡◌, ◌∙◌, refl, sym, ap}
-use Rattle.std.specs.Prelude.{Bool, true, false, if◌then◌else◌, List, [], ◌∷◌, Option, None, Some, option_and_then, option_map}
+use Rattle.std.proofs.Common.{◌≡◌, refl, sym, ap}
+use Rattle.std.specs.Prelude.{true, false, List, [], ◌∷◌, Option, None, Some, option_and_then, option_map}
 use Rattle.std.proofs.lemmas.Option.{none-some}
-use Rattle.tall_int.specs.declared.quotients.Rounding.TheVariants.{Fix}
 use Rattle.tall_value.specs.declared.functions.Reduction.{Reduction}
 use Rattle.tall_value.specs.declared.functions.Reduction.TheVariants.{Sum}
 use Rattle.tall_value.specs.declared.functions.Scan.{Scan}
 use Rattle.tall_value.specs.declared.operators.Binary.{Binary}
 use Rattle.tall_value.specs.declared.operators.Binary.TheVariants.{Idivide}
 use Rattle.tall_value.specs.declared.operators.Unary.{Unary}
-use Rattle.tall_local.specs.Applications.{Application, application, choice_of, groups_by, groups_of, sum_of, sum_with, text_of, count_of, default_rows, distinct, head, height, reduce, scan, tail, to_one, to_two, unary}
+use Rattle.tall_local.specs.Applications.{application, choice_of, groups_by, sum_of, sum_with, text_of, distinct, height, reduce, scan, to_one, to_two, unary}
 use Rattle.tall_local.specs.Functions.{methods, roundings, sum_options}
 use Rattle.tall_local.specs.Lists.{all_of, in_front_of}
 use Rattle.tall_local.specs.Memory.{Memory, scalar_in}
 use Rattle.tall_local.specs.declared.functions.SumOption.{SumOption}
 use Rattle.tall_local.specs.declared.functions.SumOption.TheVariants.{Native, OmitNan}
 use Rattle.tall_local.specs.declared.functions.ValueFunction.TheVariants as function
-use Rattle.tall_memory.specs.Shapes.{both, ends_of, four, limit, only, three}
+use Rattle.tall_memory.specs.Shapes.{both, four, limit, only, three}
 
 pub reduction_form : (r : Reduction) (vs : List Memory) → option_map (λ v. to_one (reduce r) v) (only vs) ≡ application scalar_in (function.Reduction r) vs
 reduction_form r [] = refl

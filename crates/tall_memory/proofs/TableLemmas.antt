@@ -1,14 +1,13 @@
 -- Tables made variable by variable.
 use Rattle.std.proofs.Common.{◌≡◌, ◌<◌, ◌+◌, ◌∙◌, ℕ, zero, suc, refl, sym, ap, arith, length, take, get_or}
-use Rattle.std.specs.Prelude.{◌-◌, min, Bool, true, false, if◌then◌else◌, List, [], ◌∷◌, ◌++◌, Option, None, Some, option_map, slice_get}
-use Rattle.std.specs.List.{AllPairs}
+use Rattle.std.specs.Prelude.{◌-◌, min, Bool, true, false, if◌then◌else◌, List, [], ◌∷◌, ◌++◌, None, Some, option_map, slice_get}
 use Rattle.std.specs.Str.{bytes_eq}
 use Rattle.std.proofs.lemmas.List.{get_or-take, length-drop, length-take, length-take-le}
 use Rattle.std.proofs.lemmas.Option.{none-some}
 use Rattle.tall_value.specs.Cells.{Seen}
 use Rattle.tall_value.specs.Filters.{is_true, kept}
 use Rattle.tall_column.specs.Columns.{SeenColumn, rows_kept}
-use Rattle.tall_column.specs.Tables.{AreApart, FitsHeight, HasHeight, IsTable, column_named, height_of}
+use Rattle.tall_column.specs.Tables.{FitsHeight, HasHeight, IsTable, column_named, height_of}
 use Rattle.tall_local.specs.MemoryFunctions.{with_cells}
 use Rattle.tall_local.specs.Names.{each_named}
 use Rattle.tall_memory.specs.Ends.{end_rows}

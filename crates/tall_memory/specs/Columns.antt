@@ -1,5 +1,5 @@
 -- Operators over the rows of columns in memory, which are numbered from 1.
-use Rattle.std.specs.Prelude.{ℕ, ◌≡◌, ◌<◌, ◌+◌, Bool, true, false, if◌then◌else◌, Some, Result, Ok, Err}
+use Rattle.std.specs.Prelude.{ℕ, ◌≡◌, ◌<◌, ◌+◌, Bool, true, false, Some, Result, Ok, Err}
 use Rattle.tall_value.specs.declared.class.Kind.{Kind}
 use Rattle.tall_value.specs.declared.faults.ClassFault.{ClassFault}
 use Rattle.tall_value.specs.declared.operators.Binary.{Binary}

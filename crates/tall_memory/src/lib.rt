@@ -17,3 +17,6 @@ pub use faults::MemoryFault;
 pub use indexing::{Index, constant_named, memory_index, memory_member};
 pub use operators::{memory_binary, memory_infix, memory_prefix, memory_unary};
 pub use values::{MemoryRef, MemoryValue};
+
+#[cfg(test)]
+mod tests;

@@ -1,4 +1,4 @@
-use Rattle.std.proofs.Common.{◌≡◌, ◌∙◌, ap, sym, subst, length, take, ◌++◌, ◌∷◌, []}
+use Rattle.std.proofs.Common.{◌∙◌, ap, sym, subst, length, take, ◌++◌, ◌∷◌, []}
 use Rattle.tall_column.specs.Tables.{FitsHeight, column_named}
 use Rattle.tall_local.specs.MemoryFunctions.{with_cells}
 use Rattle.tall_local.specs.Names.{each_named}

@@ -1,7 +1,6 @@
-use Rattle.std.proofs.Common.{◌≡◌, ◌∙◌, Ok, Err, ap, sym, rules}
+use Rattle.std.proofs.Common.{◌≡◌, ◌∙◌, Ok, Err, sym, rules}
 use Rattle.tall_value.specs.Cells.{seen, seen_kind}
 use Rattle.tall_value.specs.Classes.{class_of}
-use Rattle.tall_value.specs.ClassTables.{class_result}
 use Rattle.tall_value.specs.Columns.{numbered}
 use Rattle.tall_value.specs.Elementwise.{beside, scalar_rows}
 use Rattle.tall_column.specs.Mapped.{scalar_class}

@@ -1,4 +1,4 @@
-use Rattle.std.proofs.Common.{◌≡◌, Ok, false, sym, rules}
+use Rattle.std.proofs.Common.{◌≡◌, Ok, false, rules}
 use Rattle.tall_value.specs.CellOperators.{binary_cell}
 use Rattle.tall_value.specs.ClassTables.{binary_kind, class_result}
 use Rattle.tall_value.specs.Columns.{numbered}

@@ -1,4 +1,4 @@
-use Rattle.std.proofs.Common.{◌∙◌, subst, ap, sym, rules, true}
+use Rattle.std.proofs.Common.{◌∙◌, subst, ap, true}
 use Rattle.tall_value.specs.Cells.{seen, seen_kind}
 use Rattle.tall_value.specs.Classes.{class_of}
 use Rattle.tall_value.specs.ClassTables.{binary_kind, binary_class}

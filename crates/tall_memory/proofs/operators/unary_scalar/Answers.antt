@@ -1,4 +1,4 @@
-use Rattle.std.proofs.Common.{◌∙◌, subst, ap, sym, rules}
+use Rattle.std.proofs.Common.{◌∙◌, subst, ap}
 use Rattle.tall_value.specs.Cells.{seen, seen_kind}
 use Rattle.tall_value.specs.ClassTables.{unary_kind, unary_class}
 use Rattle.tall_local.specs.MemoryOperators.{scalar_result, with_kind}
