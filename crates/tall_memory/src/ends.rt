@@ -44,7 +44,7 @@ fn table_end(alloc: Global, t: &Table, last: bool, k: u64) -> Result<Table, Allo
 }
 
 /// So many of the first rows, or of the last; all rows where there are fewer.
-pub(crate) fn memory_end(
+pub fn memory_end(
     alloc: Global,
     v: &MemoryRef<'_>,
     last: bool,

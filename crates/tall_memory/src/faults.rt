@@ -38,8 +38,8 @@ impl From<AllocError> for MemoryFault {
     }
 }
 
-/// Classes that are refused.
-pub(crate) fn refused_class(fault: ClassFault) -> Result<MemoryValue, MemoryFault>
+/// The fault of classes that a table refuses.
+pub fn refused_class(fault: ClassFault) -> Result<MemoryValue, MemoryFault>
     ensures { Gives (Err (refused_class fault)) result }
 {
     match fault {

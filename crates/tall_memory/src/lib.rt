@@ -13,9 +13,10 @@ mod operators;
 mod values;
 
 pub use applications::{Application, Operation, application_of};
-pub use faults::MemoryFault;
+pub use ends::memory_end;
+pub use faults::{MemoryFault, refused_class};
 pub use indexing::{Index, constant_named, memory_index, memory_member};
-pub use operators::{memory_binary, memory_infix, memory_prefix, memory_unary};
+pub use operators::{column_answer, memory_binary, memory_infix, memory_prefix, memory_unary};
 pub use values::{MemoryRef, MemoryValue};
 
 #[cfg(test)]
