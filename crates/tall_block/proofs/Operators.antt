@@ -123,3 +123,9 @@ pub filter_told : {E : Type 0} (result : Result SeenColumn E) (a mask : SeenColu
     → IfOk result (λ c. length mask.cells ≡ length a.cells → (x m : Outcome) → Shows x a.cells → Shows m mask.cells → Shows (rows (kept (rows_in x) (cells_in m))) c.cells)
 filter_told (Ok c) a mask h = λ same x m q r. filter_shows a.cells mask.cells c (ap (λ (d : SeenColumn). d.cells) h) x m q r
 filter_told (Err e) a mask h = tt
+
+-- as many cells as rows
+pub shown_long : (x : Outcome) (cs : List Seen) → Shows x cs → length cs ≡ length (rows_in x)
+shown_long (rows rs) cs q = ap length (sym q) ∙ cells_long rs
+shown_long (scalar c) cs q = absurd q
+shown_long (fault f) cs q = absurd q
