@@ -1,0 +1,10 @@
+//! Functions of whole columns over values in memory: reductions, scans, distinct values.
+//!
+//! Each function has the name of a word of tall_local's definitions, and gives what that word says of its operand: the value,
+//! or the refusal. Operands are lent, so no function takes a value away.
+#![tactic(auto)]
+
+mod classes;
+mod reductions;
+
+pub use reductions::{memory_height, memory_reduce};
