@@ -1,1 +1,3 @@
 pub mod ReductionLemmas
+pub mod DistinctLemmas
+pub mod ScanLemmas

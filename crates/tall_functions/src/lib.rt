@@ -5,6 +5,10 @@
 #![tactic(auto)]
 
 mod classes;
+mod distinct;
 mod reductions;
+mod scans;
 
+pub use distinct::memory_distinct;
 pub use reductions::{memory_height, memory_reduce};
+pub use scans::memory_scan;
