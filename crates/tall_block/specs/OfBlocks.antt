@@ -1,19 +1,22 @@
 -- What is there of a block: the variables of its datastore, and the columns that were computed of nodes. It shows outcomes
 -- over the block's rows; values that are known as a whole are the same over each block.
-use Rattle.std.specs.Prelude.{◌≡◌, ℕ, nat_eq, true, Bool, Option, None, Some, List, [], ◌∷◌, option_map, slice_get}
+use Rattle.std.specs.Prelude.{◌≡◌, ℕ, nat_eq, true, Bool, Option, None, Some, Result, List, [], ◌∷◌, option_map, slice_get}
 use Rattle.std.specs.HashMap.{HashMap, get}
 use Rattle.tall_value.specs.Cells.{Seen}
 use Rattle.tall_dense.specs.Columns.{SeenColumn}
-use Rattle.tall_semantics.specs.Operations.{Made, stored, operation}
-use Rattle.tall_semantics.specs.Outcomes.{Outcome, scalar}
-use Rattle.tall_semantics.specs.Spaces.{is_single, store_of}
-use Rattle.tall_semantics.specs.Talls.{Tall}
-use Rattle.tall_semantics.specs.Deferred.{Vertex, IsAmong}
+use Rattle.tall_dense.specs.declared.faults.OpFault.{OpFault}
+use Rattle.tall_semantics.specs.Faults.{At}
+use Rattle.tall_semantics.specs.Operations.{Op, Made, stored, operation}
+use Rattle.tall_semantics.specs.Outcomes.{Outcome, rows_in}
+use Rattle.tall_semantics.specs.Talls.{Tall, Columns}
+use Rattle.tall_semantics.specs.Deferred.{Vertex}
+use Rattle.tall_blocks.specs.Cut.{AreAligned, AreCut}
+use Rattle.tall_blocks.specs.ValuesOver.{IsOver}
 use Rattle.tall_semantics.specs.ShapesInOrder.{shape_at}
 use Rattle.tall_fuse.specs.Results.{Found}
 use Rattle.tall_fuse.specs.Kept.{found}
 use Rattle.tall_fuse.specs.declared.known.Known.{Known}
-use Rattle.tall_block.specs.Shown.{Shows}
+use Rattle.tall_block.specs.Shown.{Shows, Tells}
 
 -- ---- columns
 
@@ -54,3 +57,24 @@ first_cell (c ∷ cs) = Some c
 abbrev pub scalar_of : Option Found → Option Seen
 scalar_of None = None
 scalar_of (Some r) = first_cell r.column.cells
+
+-- ---- nodes, and outcomes over the block
+
+abbrev pub vertex_over : At → Op → List ℕ → Vertex
+vertex_over at op args = record { at = at; made = operation op; args = args }
+
+-- the operation over these operands makes the node
+abbrev pub IsOperation : List Vertex → (place : ℕ) → Op → List ℕ → Type 0
+IsOperation vs i op args = (at : At) × (slice_get vs i ≡ Some (vertex_over at op args))
+
+-- h are the outcomes over a block whose columns are there, of a pass over the values f that computes by blocks what is cut
+pub record AreOfBlock {S : Type 0} (vs : List Vertex) (table : List (List ℕ × SeenColumn)) (made : HashMap ℕ SeenColumn S) (columns : Columns) (so_far : ℕ → List Seen) (f : ℕ → Tall) (cut : ℕ → Bool) (h : ℕ → Outcome) : Type 0 where
+  pub over : IsOver columns so_far vs f cut h
+  pub can : AreCut f cut vs
+  pub aligned : AreAligned vs cut h
+  pub shown : AreShown vs table made h
+
+-- what the answer of a node, whose first operand with rows is `lead`, tells of its outcome over any such block
+abbrev pub TellsNode : {S : Type 0} → List Vertex → List (List ℕ × SeenColumn) → HashMap ℕ SeenColumn S → (place : ℕ) → Op → List ℕ → (lead : ℕ) → Result SeenColumn OpFault → Type 0
+TellsNode vs table made i op args lead result = (columns : Columns) (so_far : ℕ → List Seen) (f : ℕ → Tall) (cut : ℕ → Bool) (h : ℕ → Outcome) → AreOfBlock vs table made columns so_far f cut h → cut i ≡ true
+    → (at : At) → slice_get vs i ≡ Some (vertex_over at op args) → Tells at (rows_in (h lead)) (h i) result

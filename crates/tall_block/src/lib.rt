@@ -2,9 +2,11 @@
 #![tactic(auto)]
 
 mod columns;
+mod nodes;
 mod rows;
 mod values;
 
 pub use columns::{column, known_scalar};
+pub use nodes::unary_value;
 pub use rows::{binary_over, filter_over, scalar_over, unary_over};
 pub use values::{binary_of, filter_of, scalar_of, unary_of};
