@@ -1,25 +1,30 @@
 -- What is accepted has operands of the classes that its operation takes; and over operands with rows, none of which is a fault, the
 -- outcome is that of the operation.
 use Rattle.std.specs.Prelude.{◌≡◌, refl, ℕ, Bool, true, false, None, Some, IsOk, Result, Ok, Err, List, [], ◌∷◌, map, slice_get}
-use Rattle.std.proofs.Common.{ap, sym, subst, ◌∙◌, IfOk}
+use Rattle.std.proofs.Common.{ap, sym, subst, ◌∙◌, IfOk, ◌⊎◌, inl, inr, length}
 use Rattle.tall_value.specs.declared.class.Class.{Class}
+use Rattle.tall_value.specs.declared.class.Class.TheVariants as class
 use Rattle.tall_value.specs.declared.faults.ClassFault.{ClassFault}
 use Rattle.tall_value.specs.declared.faults.ClassFault.TheVariants.{MixedClass, BadClass}
 use Rattle.tall_value.specs.declared.operators.Binary.{Binary}
 use Rattle.tall_value.specs.declared.operators.Unary.{Unary}
 use Rattle.tall_value.specs.Cells.{Seen}
 use Rattle.tall_value.specs.ClassTables.{binary_class, unary_class}
+use Rattle.tall_value.specs.Classes.{kind_of}
+use Rattle.tall_value.specs.FunctionClasses.{logical_kind}
 use Rattle.tall_dense.specs.Columns.{SeenColumn}
+use Rattle.tall_column.specs.Mapped.{scalar_class}
 use Rattle.tall_semantics.specs.Faults.{At, least_fault}
-use Rattle.tall_semantics.specs.Operations.{Op, binary, unary, operation}
-use Rattle.tall_semantics.specs.Outcomes.{Outcome, rows, scalar, fault, fault_of}
+use Rattle.tall_semantics.specs.Operations.{Op, binary, unary, filter, operation}
+use Rattle.tall_semantics.specs.Outcomes.{Outcome, rows, scalar, fault, fault_of, rows_in}
 use Rattle.tall_semantics.specs.Spaces.{Space, is_single}
-use Rattle.tall_semantics.specs.Shapes.{Shape, Refusal, allowed, placed, common, place_of}
+use Rattle.tall_semantics.specs.Shapes.{Shape, Refusal, allowed, placed, common, masked_class, masked, on_column, place_of}
 use Rattle.tall_semantics.specs.ShapesInOrder.{IsMade, shape_at}
-use Rattle.tall_semantics.specs.Talls.{unless}
+use Rattle.tall_semantics.specs.Talls.{Tall, unless}
 use Rattle.tall_semantics.specs.Deferred.{Vertex}
-use Rattle.tall_semantics.proofs.ShapeLaws.{place_ok, shaped_is}
+use Rattle.tall_semantics.proofs.ShapeLaws.{column_is, place_ok, shaped_is}
 use Rattle.tall_semantics.proofs.ShapesInOrderLaws.{shapes_mean}
+use Rattle.tall_blocks.specs.Cut.{IsScalar, IsKnownScalar, CanBeCut, AreAligned}
 use Rattle.tall_block.specs.OfBlocks.{IsOperation, vertex_over}
 use Rattle.tall_block.specs.Shown.{Shows}
 
@@ -59,3 +64,86 @@ pub one_sound : (x y : Outcome) (cs : List Seen) → Shows x cs → unless (leas
 one_sound (rows rs) y cs q = refl
 one_sound (scalar c) y cs q = absurd q
 one_sound (fault f) y cs q = absurd q
+
+pub two_sound : (x y z : Outcome) (cs ds : List Seen) → Shows x cs → Shows y ds → unless (least_fault (fault_of x ∷ fault_of y ∷ [])) z ≡ z
+two_sound (rows rs) (rows ss) z cs ds q r = refl
+two_sound (rows rs) (scalar d) z cs ds q r = absurd r
+two_sound (rows rs) (fault f) z cs ds q r = absurd r
+two_sound (scalar c) y z cs ds q r = absurd q
+two_sound (fault f) y z cs ds q r = absurd q
+
+pub right_sound : (x y z : Outcome) (cs : List Seen) (c : Seen) → Shows x cs → y ≡ scalar c → unless (least_fault (fault_of x ∷ fault_of y ∷ [])) z ≡ z
+right_sound (rows rs) y z cs c q r = subst (λ (o : Outcome). unless (least_fault (fault_of (rows rs) ∷ fault_of o ∷ [])) z ≡ z) (sym r) refl
+right_sound (scalar d) y z cs c q r = absurd q
+right_sound (fault f) y z cs c q r = absurd q
+
+pub left_sound : (x y z : Outcome) (cs : List Seen) (c : Seen) → Shows x cs → y ≡ scalar c → unless (least_fault (fault_of y ∷ fault_of x ∷ [])) z ≡ z
+left_sound (rows rs) y z cs c q r = subst (λ (o : Outcome). unless (least_fault (fault_of o ∷ fault_of (rows rs) ∷ [])) z ≡ z) (sym r) refl
+left_sound (scalar d) y z cs c q r = absurd q
+left_sound (fault f) y z cs c q r = absurd q
+
+-- ---- operators of two operands
+
+pub binary_taken : (vs : List Vertex) → IsMade vs → (i a b : ℕ) (op : Binary) → IsOperation vs i (binary op) (a ∷ b ∷ [])
+    → binary_class op (shape_at vs a).class (is_single (shape_at vs a).space) (shape_at vs b).class (is_single (shape_at vs b).space) ≡ class_ok (shape_at vs i).class
+binary_taken vs made i a b op e =
+    let w = accepted_place vs made i (binary op) (a ∷ b ∷ []) e in
+    class_taken (binary_class op (shape_at vs a).class (is_single (shape_at vs a).space) (shape_at vs b).class (is_single (shape_at vs b).space)) (common (shape_at vs a).space (shape_at vs b).space) w.0 w.1 ∙ ap class_ok w.2
+
+pub of_taken : (op : Binary) (x y z : Class) (s t u v : Bool) → s ≡ u → t ≡ v → binary_class op x s y t ≡ class_ok z → binary_class op x u y v ≡ class_ok z
+of_taken op x y z s t u v p q h = subst (λ (d : Bool). binary_class op x u y d ≡ class_ok z) q (subst (λ (d : Bool). binary_class op x d y t ≡ class_ok z) p h)
+
+pub columns_taken : (vs : List Vertex) → IsMade vs → (i a b : ℕ) (op : Binary) → IsOperation vs i (binary op) (a ∷ b ∷ []) → is_single (shape_at vs a).space ≡ false → is_single (shape_at vs b).space ≡ false
+    → binary_class op (shape_at vs a).class false (shape_at vs b).class false ≡ class_ok (shape_at vs i).class
+columns_taken vs made i a b op e p q =
+    of_taken op (shape_at vs a).class (shape_at vs b).class (shape_at vs i).class (is_single (shape_at vs a).space) (is_single (shape_at vs b).space) false false p q (binary_taken vs made i a b op e)
+
+-- columns have equally many rows
+
+shown_rows : (x : Outcome) (cs : List Seen) → Shows x cs → x ≡ rows (rows_in x)
+shown_rows (rows rs) cs q = refl
+shown_rows (scalar c) cs q = absurd q
+shown_rows (fault f) cs q = absurd q
+
+pub aligned_rows : (vs : List Vertex) (cut : ℕ → Bool) (h : ℕ → Outcome) → AreAligned vs cut h → (i a b : ℕ) (at : At) (op : Op) (cs ds : List Seen) → slice_get vs i ≡ Some (vertex_over at op (a ∷ b ∷ []))
+    → cut i ≡ true → (cut a ≡ true) × (cut b ≡ true) → Shows (h a) cs → Shows (h b) ds → length (rows_in (h b)) ≡ length (rows_in (h a))
+aligned_rows vs cut h aligned i a b at op cs ds e p both q r =
+    sym (aligned i a b (vertex_over at op (a ∷ b ∷ [])) (rows_in (h a)) (rows_in (h b)) e refl p both.0 both.1 (shown_rows (h a) cs q) (shown_rows (h b) ds r))
+
+no_scalar : (f : ℕ → Tall) (cut : ℕ → Bool) (h : ℕ → Outcome) → ((j : ℕ) → cut j ≡ false → h j ≡ (f j).outcome) → (a : ℕ) (cs : List Seen) → IsKnownScalar f cut a → Shows (h a) cs → ⊥
+no_scalar f cut h known a cs e r =
+    let s : IsScalar (f a).outcome = e.1 in subst (λ (x : Outcome). Shows x cs) (known a e.0 ∙ s.1) r
+
+pub both_cut : (f : ℕ → Tall) (cut : ℕ → Bool) (h : ℕ → Outcome) → ((j : ℕ) → cut j ≡ false → h j ≡ (f j).outcome) → (a b : ℕ) (op : Binary) (cs ds : List Seen) → CanBeCut f cut (operation (binary op)) (a ∷ b ∷ [])
+    → Shows (h a) cs → Shows (h b) ds → (cut a ≡ true) × (cut b ≡ true)
+both_cut f cut h known a b op cs ds can q r = elim can [
+  | inl e ↦ e
+  | inr o ↦ elim o [
+    | inl e ↦ absurd (no_scalar f cut h known b ds e.1 r)
+    | inr e ↦ absurd (no_scalar f cut h known a cs e.0 q)
+  ]
+]
+
+-- ---- filters
+
+mask_taken : (c m d : Class) → masked_class c (logical_kind (kind_of m)) ≡ class_ok d → (m ≡ class.Logical) × (c ≡ d)
+mask_taken c class.Logical d h = (refl, ok_inside c d h)
+mask_taken c class.Int8 d h = absurd (cc)
+mask_taken c class.Int16 d h = absurd (cc)
+mask_taken c class.Int32 d h = absurd (cc)
+mask_taken c class.Int64 d h = absurd (cc)
+mask_taken c class.Uint8 d h = absurd (cc)
+mask_taken c class.Uint16 d h = absurd (cc)
+mask_taken c class.Uint32 d h = absurd (cc)
+mask_taken c class.Uint64 d h = absurd (cc)
+mask_taken c class.Double d h = absurd (cc)
+mask_taken c class.Text d h = absurd (cc)
+
+pub filter_taken : (vs : List Vertex) → IsMade vs → (i a m : ℕ) → IsOperation vs i filter (a ∷ m ∷ []) → ((shape_at vs m).class ≡ class.Logical) × ((shape_at vs a).class ≡ (shape_at vs i).class)
+filter_taken vs made i a m e =
+    let w = accepted_place vs made i filter (a ∷ m ∷ []) e in
+    let x : Shape = shape_at vs a in
+    let y : Shape = shape_at vs m in
+    let r : Result (Class × Space) Refusal = placed (allowed (masked_class x.class (logical_kind (kind_of y.class)))) (masked x.space y.space y.tree) in
+    let t = mask_taken x.class y.class w.0.0 (class_taken (masked_class x.class (logical_kind (kind_of y.class))) (masked x.space y.space y.tree) w.0 (column_is y r w.0 (column_is x (on_column y r) w.0 w.1))) in
+    (t.0, t.1 ∙ w.2)
