@@ -98,6 +98,18 @@ pub columns_taken : (vs : List Vertex) → IsMade vs → (i a b : ℕ) (op : Bin
 columns_taken vs made i a b op e p q =
     of_taken op (shape_at vs a).class (shape_at vs b).class (shape_at vs i).class (is_single (shape_at vs a).space) (is_single (shape_at vs b).space) false false p q (binary_taken vs made i a b op e)
 
+pub right_taken : (vs : List Vertex) → IsMade vs → (i a s : ℕ) (op : Binary) (k : Class) → IsOperation vs i (binary op) (a ∷ s ∷ []) → is_single (shape_at vs a).space ≡ false → is_single (shape_at vs s).space ≡ true
+    → k ≡ (shape_at vs s).class → scalar_class op false k (shape_at vs a).class ≡ class_ok (shape_at vs i).class
+right_taken vs made i a s op k e p q r =
+    subst (λ (c : Class). scalar_class op false c (shape_at vs a).class ≡ class_ok (shape_at vs i).class) (sym r)
+    (of_taken op (shape_at vs a).class (shape_at vs s).class (shape_at vs i).class (is_single (shape_at vs a).space) (is_single (shape_at vs s).space) false true p q (binary_taken vs made i a s op e))
+
+pub left_taken : (vs : List Vertex) → IsMade vs → (i s a : ℕ) (op : Binary) (k : Class) → IsOperation vs i (binary op) (s ∷ a ∷ []) → is_single (shape_at vs s).space ≡ true → is_single (shape_at vs a).space ≡ false
+    → k ≡ (shape_at vs s).class → scalar_class op true k (shape_at vs a).class ≡ class_ok (shape_at vs i).class
+left_taken vs made i s a op k e p q r =
+    subst (λ (c : Class). scalar_class op true c (shape_at vs a).class ≡ class_ok (shape_at vs i).class) (sym r)
+    (of_taken op (shape_at vs s).class (shape_at vs a).class (shape_at vs i).class (is_single (shape_at vs s).space) (is_single (shape_at vs a).space) true false p q (binary_taken vs made i s a op e))
+
 -- columns have equally many rows
 
 shown_rows : (x : Outcome) (cs : List Seen) → Shows x cs → x ≡ rows (rows_in x)
@@ -147,3 +159,6 @@ filter_taken vs made i a m e =
     let r : Result (Class × Space) Refusal = placed (allowed (masked_class x.class (logical_kind (kind_of y.class)))) (masked x.space y.space y.tree) in
     let t = mask_taken x.class y.class w.0.0 (class_taken (masked_class x.class (logical_kind (kind_of y.class))) (masked x.space y.space y.tree) w.0 (column_is y r w.0 (column_is x (on_column y r) w.0 w.1))) in
     (t.0, t.1 ∙ w.2)
+
+pub filter_class : {E : Type 0} (result : Result SeenColumn E) (c d : Class) → c ≡ d → IfOk result (λ k. k.class ≡ c) → IfOk result (λ k. k.class ≡ d)
+filter_class result c d q h = subst (λ (x : Class). IfOk result (λ (k : SeenColumn). k.class ≡ x)) q h

@@ -7,7 +7,7 @@ use Rattle.tall_dense.specs.Columns.{SeenColumn}
 use Rattle.tall_dense.specs.declared.faults.OpFault.{OpFault}
 use Rattle.tall_semantics.specs.Faults.{At}
 use Rattle.tall_semantics.specs.Operations.{Op, Made, stored, operation}
-use Rattle.tall_semantics.specs.Outcomes.{Outcome, rows_in}
+use Rattle.tall_semantics.specs.Outcomes.{Outcome, rows_in, scalar}
 use Rattle.tall_semantics.specs.Talls.{Tall, Columns}
 use Rattle.tall_semantics.specs.Deferred.{Vertex}
 use Rattle.tall_blocks.specs.Cut.{AreAligned, AreCut}
@@ -78,3 +78,8 @@ pub record AreOfBlock {S : Type 0} (vs : List Vertex) (table : List (List ℕ ×
 abbrev pub TellsNode : {S : Type 0} → List Vertex → List (List ℕ × SeenColumn) → HashMap ℕ SeenColumn S → (place : ℕ) → Op → List ℕ → (lead : ℕ) → Result SeenColumn OpFault → Type 0
 TellsNode vs table made i op args lead result = (columns : Columns) (so_far : ℕ → List Seen) (f : ℕ → Tall) (cut : ℕ → Bool) (h : ℕ → Outcome) → AreOfBlock vs table made columns so_far f cut h → cut i ≡ true
     → (at : At) → slice_get vs i ≡ Some (vertex_over at op args) → Tells at (rows_in (h lead)) (h i) result
+
+-- the same, where the node at s is the scalar c
+abbrev pub TellsBeside : {S : Type 0} → List Vertex → List (List ℕ × SeenColumn) → HashMap ℕ SeenColumn S → (place : ℕ) → Op → List ℕ → (lead : ℕ) → (s : ℕ) → Seen → Result SeenColumn OpFault → Type 0
+TellsBeside vs table made i op args lead s c result = (columns : Columns) (so_far : ℕ → List Seen) (f : ℕ → Tall) (cut : ℕ → Bool) (h : ℕ → Outcome) → AreOfBlock vs table made columns so_far f cut h → cut i ≡ true
+    → h s ≡ scalar c → (at : At) → slice_get vs i ≡ Some (vertex_over at op args) → Tells at (rows_in (h lead)) (h i) result

@@ -1,16 +1,18 @@
 //! The value of a node over a block's rows, told of the outcomes over the block of whatever values the graph's equations have.
-ghost use Rattle.std.specs.Prelude.{◌≡◌, ◌<◌, ◌∷◌, [], false, IfOk, length};
+ghost use Rattle.std.specs.Prelude.{◌≡◌, ◌<◌, ◌∷◌, [], false, true, IfOk, length};
+ghost use Rattle.tall_value.specs.Cells.{seen};
+ghost use Rattle.tall_dense.specs.Columns.{class_of_cell};
 ghost use Rattle.tall_semantics.specs.Operations.{binary, unary};
 ghost use Rattle.tall_semantics.specs.ShapesInOrder.{shape_at};
 ghost use Rattle.tall_semantics.specs.Spaces.{is_single};
-ghost use Rattle.tall_block.specs.OfBlocks.{HaveClasses, IsOperation, IsThere, TellsNode};
+ghost use Rattle.tall_block.specs.OfBlocks.{HaveClasses, IsOperation, IsThere, TellsBeside, TellsNode};
 
-use crate::values::{binary_of, unary_of};
+use crate::values::{binary_of, scalar_of, unary_of};
 use std::alloc::Global;
 use std::collections::HashMap;
 use tall_column::{Column, OpFault, Table};
 use tall_graph::{Graph, NodeId};
-use tall_value::{Binary, Unary};
+use tall_value::{Binary, Cell, Unary};
 
 /// The value of the node n, an operator of one operand whose column is there.
 ///
@@ -63,4 +65,62 @@ pub fn binary_value(
 {
     graph.keeps_its_rules();
     binary_of(alloc, graph, table, made, op, a, b)
+}
+
+/// The value of the node n, an operator of a node a whose column is there and, on its right, a scalar that is known.
+///
+/// # Errors
+/// As `unary_value`.
+pub fn scalar_right_value(
+    alloc: Global,
+    graph: &Graph,
+    table: &Table,
+    made: &HashMap<usize, Column>,
+    n: NodeId,
+    op: Binary,
+    a: NodeId,
+    s: NodeId,
+    cell: &Cell<'_>,
+) -> Result<Column, OpFault>
+    requires place { a < length graph.now }
+    requires node { IsOperation graph.now n (binary op) (a ∷ s ∷ []) }
+    requires column { is_single (shape_at graph.now a).space ≡ false }
+    requires single { is_single (shape_at graph.now s).space ≡ true }
+    requires cell_class { class_of_cell (seen cell.now) ≡ (shape_at graph.now s).class }
+    requires there { IsThere graph.now table.now made.now a }
+    requires classes { HaveClasses graph.now table.now made.now }
+    ensures class { IfOk result (λ c. c.class ≡ (shape_at graph.now n).class) }
+    ensures rows { TellsBeside graph.now table.now made.now n (binary op) (a ∷ s ∷ []) a s (seen cell.now) result }
+{
+    graph.keeps_its_rules();
+    scalar_of(alloc, graph, table, made, op, a, cell, false)
+}
+
+/// The value of the node n, an operator of a node a whose column is there and, on its left, a scalar that is known.
+///
+/// # Errors
+/// As `unary_value`.
+pub fn scalar_left_value(
+    alloc: Global,
+    graph: &Graph,
+    table: &Table,
+    made: &HashMap<usize, Column>,
+    n: NodeId,
+    op: Binary,
+    a: NodeId,
+    s: NodeId,
+    cell: &Cell<'_>,
+) -> Result<Column, OpFault>
+    requires place { a < length graph.now }
+    requires node { IsOperation graph.now n (binary op) (s ∷ a ∷ []) }
+    requires column { is_single (shape_at graph.now a).space ≡ false }
+    requires single { is_single (shape_at graph.now s).space ≡ true }
+    requires cell_class { class_of_cell (seen cell.now) ≡ (shape_at graph.now s).class }
+    requires there { IsThere graph.now table.now made.now a }
+    requires classes { HaveClasses graph.now table.now made.now }
+    ensures class { IfOk result (λ c. c.class ≡ (shape_at graph.now n).class) }
+    ensures rows { TellsBeside graph.now table.now made.now n (binary op) (s ∷ a ∷ []) a s (seen cell.now) result }
+{
+    graph.keeps_its_rules();
+    scalar_of(alloc, graph, table, made, op, a, cell, true)
 }
