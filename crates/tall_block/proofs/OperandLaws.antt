@@ -1,6 +1,7 @@
 -- What is accepted has operands of the classes that its operation takes; and over operands with rows, none of which is a fault, the
 -- outcome is that of the operation.
 use Rattle.std.specs.Prelude.{◌≡◌, refl, ℕ, Bool, true, false, None, Some, IsOk, Result, Ok, Err, List, [], ◌∷◌, map, slice_get}
+use Rattle.std.specs.HashMap.{HashMap}
 use Rattle.std.proofs.Common.{ap, sym, subst, ◌∙◌, IfOk, ◌⊎◌, inl, inr, length}
 use Rattle.tall_value.specs.declared.class.Class.{Class}
 use Rattle.tall_value.specs.declared.class.Class.TheVariants as class
@@ -11,21 +12,22 @@ use Rattle.tall_value.specs.declared.operators.Unary.{Unary}
 use Rattle.tall_value.specs.Cells.{Seen}
 use Rattle.tall_value.specs.ClassTables.{binary_class, unary_class}
 use Rattle.tall_value.specs.Classes.{kind_of}
+use Rattle.tall_value.specs.Filters.{kept}
 use Rattle.tall_value.specs.FunctionClasses.{logical_kind}
 use Rattle.tall_dense.specs.Columns.{SeenColumn}
 use Rattle.tall_column.specs.Mapped.{scalar_class}
 use Rattle.tall_semantics.specs.Faults.{At, least_fault}
 use Rattle.tall_semantics.specs.Operations.{Op, binary, unary, filter, operation}
-use Rattle.tall_semantics.specs.Outcomes.{Outcome, rows, scalar, fault, fault_of, rows_in}
+use Rattle.tall_semantics.specs.Outcomes.{Outcome, rows, scalar, fault, fault_of, rows_in, cells_in}
 use Rattle.tall_semantics.specs.Spaces.{Space, is_single}
 use Rattle.tall_semantics.specs.Shapes.{Shape, Refusal, allowed, placed, common, masked_class, masked, on_column, place_of}
 use Rattle.tall_semantics.specs.ShapesInOrder.{IsMade, shape_at}
-use Rattle.tall_semantics.specs.Talls.{Tall, unless}
+use Rattle.tall_semantics.specs.Talls.{Columns, Tall, unless}
 use Rattle.tall_semantics.specs.Deferred.{Vertex}
 use Rattle.tall_semantics.proofs.ShapeLaws.{column_is, place_ok, shaped_is}
 use Rattle.tall_semantics.proofs.ShapesInOrderLaws.{shapes_mean}
 use Rattle.tall_blocks.specs.Cut.{IsScalar, IsKnownScalar, CanBeCut, AreAligned}
-use Rattle.tall_block.specs.OfBlocks.{IsOperation, vertex_over}
+use Rattle.tall_block.specs.OfBlocks.{AreShown, IsOperation, IsThere, ShowsNode, vertex_over}
 use Rattle.tall_block.specs.Shown.{Shows}
 
 abbrev class_ok : Class → Result Class ClassFault
@@ -162,3 +164,15 @@ filter_taken vs made i a m e =
 
 pub filter_class : {E : Type 0} (result : Result SeenColumn E) (c d : Class) → c ≡ d → IfOk result (λ k. k.class ≡ c) → IfOk result (λ k. k.class ≡ d)
 filter_class result c d q h = subst (λ (x : Class). IfOk result (λ (k : SeenColumn). k.class ≡ x)) q h
+
+pub filter_shown : {S E : Type 0} (vs : List Vertex) (table : List (List ℕ × SeenColumn)) (made : HashMap ℕ SeenColumn S) (result : Result SeenColumn E) (i a m : ℕ) → IsThere vs table made a → IsThere vs table made m
+    → IfOk result (λ c. (h : ℕ → Outcome) → AreShown vs table made h → length (rows_in (h m)) ≡ length (rows_in (h a)) → Shows (rows (kept (rows_in (h a)) (cells_in (h m)))) c.cells)
+    → IfOk result (λ c. ShowsNode vs table made i filter (a ∷ m ∷ []) c)
+filter_shown vs table made (Ok column) i a m left right w = λ columns so_far f cut h block q at e.
+    let l = block.shown a left.0 left.1 in
+    let r = block.shown m right.0 right.1 in
+    let own : Outcome = rows (kept (rows_in (h a)) (cells_in (h m))) in
+    let is : h i ≡ own = block.over.made i (vertex_over at filter (a ∷ m ∷ [])) e q ∙ two_sound (h a) (h m) own left.0.cells right.0.cells l r in
+    let same = aligned_rows vs cut h block.aligned i a m at filter left.0.cells right.0.cells e q (block.can i (vertex_over at filter (a ∷ m ∷ [])) e q) l r in
+    subst (λ (o : Outcome). Shows o column.cells) (sym is) (w h block.shown same)
+filter_shown vs table made (Err x) i a m left right w = tt

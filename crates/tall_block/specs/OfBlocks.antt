@@ -83,3 +83,8 @@ TellsNode vs table made i op args lead result = (columns : Columns) (so_far : �
 abbrev pub TellsBeside : {S : Type 0} → List Vertex → List (List ℕ × SeenColumn) → HashMap ℕ SeenColumn S → (place : ℕ) → Op → List ℕ → (lead : ℕ) → (s : ℕ) → Seen → Result SeenColumn OpFault → Type 0
 TellsBeside vs table made i op args lead s c result = (columns : Columns) (so_far : ℕ → List Seen) (f : ℕ → Tall) (cut : ℕ → Bool) (h : ℕ → Outcome) → AreOfBlock vs table made columns so_far f cut h → cut i ≡ true
     → h s ≡ scalar c → (at : At) → slice_get vs i ≡ Some (vertex_over at op args) → Tells at (rows_in (h lead)) (h i) result
+
+-- what the column of a node shows over any such block
+abbrev pub ShowsNode : {S : Type 0} → List Vertex → List (List ℕ × SeenColumn) → HashMap ℕ SeenColumn S → (place : ℕ) → Op → List ℕ → SeenColumn → Type 0
+ShowsNode vs table made i op args column = (columns : Columns) (so_far : ℕ → List Seen) (f : ℕ → Tall) (cut : ℕ → Bool) (h : ℕ → Outcome) → AreOfBlock vs table made columns so_far f cut h → cut i ≡ true
+    → (at : At) → slice_get vs i ≡ Some (vertex_over at op args) → Shows (h i) column.cells

@@ -2,13 +2,13 @@
 ghost use Rattle.std.specs.Prelude.{◌≡◌, ◌<◌, ◌∷◌, [], false, true, IfOk, length};
 ghost use Rattle.tall_value.specs.Cells.{seen};
 ghost use Rattle.tall_dense.specs.Columns.{class_of_cell};
-ghost use Rattle.tall_semantics.specs.Operations.{binary, unary};
+ghost use Rattle.tall_semantics.specs.Operations.{binary, filter, unary};
 ghost use Rattle.tall_semantics.specs.ShapesInOrder.{shape_at};
 ghost use Rattle.tall_semantics.specs.Spaces.{is_single};
-ghost use Rattle.tall_block.specs.OfBlocks.{HaveClasses, IsOperation, IsThere, TellsBeside, TellsNode};
+ghost use Rattle.tall_block.specs.OfBlocks.{HaveClasses, IsOperation, IsThere, ShowsNode, TellsBeside, TellsNode};
 
-use crate::values::{binary_of, scalar_of, unary_of};
-use std::alloc::Global;
+use crate::values::{binary_of, filter_of, scalar_of, unary_of};
+use std::alloc::{AllocError, Global};
 use std::collections::HashMap;
 use tall_column::{Column, OpFault, Table};
 use tall_graph::{Graph, NodeId};
@@ -123,4 +123,27 @@ pub fn scalar_left_value(
 {
     graph.keeps_its_rules();
     scalar_of(alloc, graph, table, made, op, a, cell, true)
+}
+
+/// The value of the node n, the rows of a column where a mask is true, whose columns are there. Refused for want of memory
+/// alone.
+pub fn filter_value(
+    graph: &Graph,
+    table: &Table,
+    made: &HashMap<usize, Column>,
+    n: NodeId,
+    a: NodeId,
+    mask: NodeId,
+) -> Result<Column, AllocError>
+    requires place { a < length graph.now }
+    requires mask_place { mask < length graph.now }
+    requires node { IsOperation graph.now n filter (a ∷ mask ∷ []) }
+    requires there { IsThere graph.now table.now made.now a }
+    requires mask_there { IsThere graph.now table.now made.now mask }
+    requires classes { HaveClasses graph.now table.now made.now }
+    ensures class { IfOk result (λ c. c.class ≡ (shape_at graph.now n).class) }
+    ensures rows { IfOk result (λ c. ShowsNode graph.now table.now made.now n filter (a ∷ mask ∷ []) c) }
+{
+    graph.keeps_its_rules();
+    filter_of(graph, table, made, a, mask)
 }
