@@ -8,3 +8,4 @@ pub mod PlacedLemmas
 pub mod NativeLemmas
 pub mod PartLemmas
 pub mod GroupLemmas
+pub mod FoldLemmas

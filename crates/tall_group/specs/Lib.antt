@@ -7,3 +7,5 @@ pub mod StateLaws
 pub mod Limits
 pub mod Places
 pub mod Groups
+pub mod GroupFolds
+pub mod Folds

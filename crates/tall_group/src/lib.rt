@@ -6,9 +6,12 @@ mod numbers;
 mod table;
 mod unique;
 
+pub use fold::GroupFold;
 pub use unique::UniqueFold;
 
 mod bests;
+mod fold;
+mod group_states;
 mod groups;
 mod limits;
 mod natives;
