@@ -18,6 +18,10 @@ pub on_ok : {A B P Q : Type 0} (r : Result A B) → (P → Q) → IfOk r (λ _. 
 on_ok (Ok x) f h = f h
 on_ok (Err e) f h = h
 
+pub on_both : {A B P Q R : Type 0} (r : Result A B) → (P → Q → R) → IfOk r (λ _. P) → IfOk r (λ _. Q) → IfOk r (λ _. R)
+on_both (Ok x) f h i = f h i
+on_both (Err e) f h i = i
+
 pub one_kind : (c : Seen) (class : Class) → class_of_cell c ≡ class → All (HasKind (kind_of class)) (c ∷ [])
 one_kind c class h = All-cons (HasKind (kind_of class)) c [] (kind_is c class h) (All-nil (HasKind (kind_of class)))
 

@@ -134,3 +134,9 @@ pub nans_more : (k : Kind) (n : ℕ) (before : List Seen) (old new : SeenColumn)
 nans_more k n before old new d o h e =
     ap (λ (c : SeenColumn). c.cells) h
     ∙ (ap (λ cs. cs ++ d ∷ []) o ∙ (append_assoc before (nans_of k n) (d ∷ []) ∙ (ap (λ x. before ++ (nans_of k n ++ x ∷ [])) e ∙ ap (λ cs. before ++ cs) (sym (one_copy_more n (key_cell k Nan))))))
+
+-- the first rows and one more are of the class
+pub kinds_more : (class : Class) (cs : List Seen) (i : ℕ) (c : Seen) → slice_get cs i ≡ Some c → class_of_cell c ≡ class → All (HasKind (kind_of class)) (take i cs) → All (HasKind (kind_of class)) (take (i + 1) cs)
+kinds_more class cs i c h e a =
+    let of = HasKind (kind_of class) in
+    subst (All of) (sym (taken_more cs i c h)) (All-append of (take i cs) (c ∷ []) a (All-cons of c [] (kind_is c class e) (All-nil of)))

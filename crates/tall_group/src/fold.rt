@@ -9,6 +9,7 @@ ghost use Rattle.tall_group.specs.Folds.{AreAlike, IsGroupFoldOf, class_of_data,
 use crate::group_states::GroupStates;
 use crate::table::KeyTable;
 use std::alloc::{AllocError, Global};
+use tall_column::Column;
 use tall_value::{Cell, Class, Method};
 
 /// The groups of rows by a key, with what a method keeps of each group's data (MathWorks, groupsummary). The rows may
@@ -47,6 +48,19 @@ impl GroupFold {
         ensures rows { (ks vs : List Seen) → IsGroupFoldOf self.old ks vs → length ks + 1 < 2 ^ 40 → IfOk result (λ _. IsGroupFoldOf self.new (ks ++ seen key.now ∷ []) (vs ++ seen value.now ∷ [])) }
     {
         self.states.add(&mut self.keys, key, value)
+    }
+
+    /// Adds the rows of two columns, the keys and the data. Refused for want of memory alone; a refused fold is only
+    /// dropped.
+    pub fn add_columns(&mut self, keys: &Column, values: &Column) -> Result<(), AllocError>
+        requires keys { keys.now.class ≡ class_of_keys self.old }
+        requires data { values.now.class ≡ class_of_data self.old }
+        requires even { length keys.now.cells ≡ length values.now.cells }
+        requires rows { (ks vs : List Seen) × IsGroupFoldOf self.old ks vs × (length ks + length keys.now.cells < 2 ^ 40) }
+        ensures alike { AreAlike self.new self.old }
+        ensures rows { (ks vs : List Seen) → IsGroupFoldOf self.old ks vs → length ks + length keys.now.cells < 2 ^ 40 → IfOk result (λ _. IsGroupFoldOf self.new (ks ++ keys.now.cells) (vs ++ values.now.cells)) }
+    {
+        self.states.add_columns(&mut self.keys, keys, values)
     }
 
     /// Adds the rows of a later fold behind. Refused for want of memory alone, after some of the later keys; a refused

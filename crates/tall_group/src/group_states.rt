@@ -1,6 +1,9 @@
 //! States of all groups, by what is kept.
 ghost use Rattle.std.specs.Prelude.{◌≡◌, ◌<◌, ◌+◌, ◌++◌, ◌^◌, ℤ, [], ◌∷◌, IfOk, IsOk, List, length};
 ghost use Rattle.tall_value.specs.Cells.{Seen, seen, seen_kind};
+ghost use Rattle.std.specs.List.{All};
+ghost use Rattle.tall_value.specs.Classes.{kind_of};
+ghost use Rattle.tall_value.specs.Columns.{HasKind};
 ghost use Rattle.tall_value.specs.FunctionClasses.{method_kind};
 ghost use Rattle.tall_value.specs.declared.class.Kind.{Kind};
 ghost use Rattle.tall_value.specs.declared.functions.Method.{Method};
@@ -8,13 +11,14 @@ ghost use Rattle.tall_dense.specs.Columns.{class_of_cell};
 ghost use Rattle.tall_group.specs.GroupFolds.{AreGroupsOf, form_of, served};
 
 use crate::bests::Best;
-use crate::groups::{add_row, join_groups};
+use crate::groups::{add_row, add_rows, join_groups};
 use crate::natives::NativeSum;
 use crate::table::KeyTable;
 use crate::tallies::{Missing, Never, NumberButZero, Tally};
 use crate::totals::Total;
 use std::alloc::{AllocError, Global};
 use tall_clamp::{Larger, Smaller};
+use tall_column::Column;
 use tall_value::{Cell, Kind, Method};
 
 /// A state for each group, of what a method keeps.
@@ -72,6 +76,33 @@ impl GroupStates {
             GroupStates::Greatest(v) => add_row(keys, v, key, value),
             GroupStates::Nonzero(v) => add_row(keys, v, key, value),
             GroupStates::Missing(v) => add_row(keys, v, key, value),
+        }
+    }
+
+    /// The rows of two columns more.
+    pub(crate) fn add_columns(
+        &mut self,
+        keys: &mut KeyTable,
+        more: &Column,
+        values: &Column,
+    ) -> Result<(), AllocError>
+        requires class { more.now.class ≡ keys.old.class }
+        requires even { length more.now.cells ≡ length values.now.cells }
+        requires groups { (ks vs : List Seen) × AreGroupsOf (kind_of values.now.class) keys.old.cells self.old ks vs × (length ks + length more.now.cells < 2 ^ 40) }
+        ensures class { keys.new.class ≡ keys.old.class }
+        ensures kinds { IfOk result (λ _. All (HasKind (kind_of more.now.class)) more.now.cells × All (HasKind (kind_of values.now.class)) values.now.cells) }
+        ensures alike { served self.new ≡ served self.old }
+        ensures groups { (ks vs : List Seen) → AreGroupsOf (kind_of values.now.class) keys.old.cells self.old ks vs → length ks + length more.now.cells < 2 ^ 40
+            → IfOk result (λ _. AreGroupsOf (kind_of values.now.class) keys.new.cells self.new (ks ++ more.now.cells) (vs ++ values.now.cells)) }
+    {
+        match self {
+            GroupStates::Rows(v) => add_rows(keys, v, more, values),
+            GroupStates::Totals(v) => add_rows(keys, v, more, values),
+            GroupStates::Natives(v) => add_rows(keys, v, more, values),
+            GroupStates::Least(v) => add_rows(keys, v, more, values),
+            GroupStates::Greatest(v) => add_rows(keys, v, more, values),
+            GroupStates::Nonzero(v) => add_rows(keys, v, more, values),
+            GroupStates::Missing(v) => add_rows(keys, v, more, values),
         }
     }
 

@@ -2,7 +2,9 @@
 ghost use Rattle.std.specs.Prelude.{◌≡◌, ◌<◌, ◌+◌, ◌++◌, ◌^◌, ℤ, [], ◌∷◌, IfOk, List, length};
 ghost use Rattle.tall_value.specs.Cells.{Seen, seen, seen_kind};
 ghost use Rattle.tall_dense.specs.Columns.{class_of_cell};
+ghost use Rattle.std.specs.List.{All};
 ghost use Rattle.tall_value.specs.Classes.{kind_of};
+ghost use Rattle.tall_value.specs.Columns.{HasKind};
 ghost use Rattle.tall_group.specs.Groups.{IsGroupsOf};
 ghost use Rattle.tall_group.specs.States.{IsRange, high_of, low_of};
 
@@ -24,6 +26,7 @@ pub(crate) fn add_rows<S: GroupState>(
     requires even { length keys.now.cells ≡ length values.now.cells }
     requires groups { (ks vs : List Seen) × IsGroupsOf (S.of (low_of (kind_of values.now.class)) (high_of (kind_of values.now.class))) table.old.cells states.old.items ks vs × (length ks + length keys.now.cells < 2 ^ 40) }
     ensures class { table.new.class ≡ table.old.class }
+    ensures kinds { IfOk result (λ _. All (HasKind (kind_of keys.now.class)) keys.now.cells × All (HasKind (kind_of values.now.class)) values.now.cells) }
     ensures groups { (ks vs : List Seen) → IsGroupsOf (S.of (low_of (kind_of values.now.class)) (high_of (kind_of values.now.class))) table.old.cells states.old.items ks vs → length ks + length keys.now.cells < 2 ^ 40
         → IfOk result (λ _. IsGroupsOf (S.of (low_of (kind_of values.now.class)) (high_of (kind_of values.now.class))) table.new.cells states.new.items (ks ++ keys.now.cells) (vs ++ values.now.cells)) }
 {

@@ -3,6 +3,7 @@ ghost use Rattle.std.specs.Prelude.{◌≡◌, ◌<◌, ◌≤◌, ◌+◌, ◌+
 ghost use Rattle.std.specs.List.{All};
 ghost use Rattle.tall_value.specs.Cells.{seen, seen_kind};
 ghost use Rattle.tall_value.specs.Classes.{greatest, kind_of, least};
+ghost use Rattle.tall_value.specs.Columns.{HasKind};
 ghost use Rattle.tall_group.specs.Places.{AreOf, Data, if_here, parts_at, rows_at, singles};
 ghost use Rattle.tall_group.specs.States.{IsRange, IsWithin, datum, high_of, low_of};
 
@@ -133,6 +134,7 @@ pub(crate) fn step_rows<S: GroupState>(states: &mut Vec<S>, places: &[usize], va
     requires within { (i : ℕ) (d : ℕ) → i < length places.now → get_or places.now i d < length states.old.items }
     requires few { (p : ℕ) (d : S) → p < length states.old.items → S.rows (get_or states.old.items p d) + length places.now < 2 ^ 40 }
     ensures long { length states.new.items ≡ length states.old.items }
+    ensures kinds { All (HasKind (kind_of values.now.class)) values.now.cells }
     ensures data { (at : ℕ → Data) → AreOf (S.of (low_of (kind_of values.now.class)) (high_of (kind_of values.now.class))) at states.old.items → AreOf (S.of (low_of (kind_of values.now.class)) (high_of (kind_of values.now.class))) (λ p. at p ++ parts_at p places.now (singles values.now.cells)) states.new.items }
 {
     let kind = values.class().kind();

@@ -93,6 +93,7 @@ impl KeyTable {
         requires { column.now.class ≡ self.old.class }
         ensures class { self.new.class ≡ self.old.class }
         ensures places { IfOk result (λ ps. ArePlaced self.old.cells self.new.cells column.now.cells ps.items) }
+        ensures kinds { IfOk result (λ _. All (HasKind (kind_of column.now.class)) column.now.cells) }
     {
         let mut places = Vec::with_capacity(self.alloc, column.len())?;
         for row in 0..column.len() {
