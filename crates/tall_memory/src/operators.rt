@@ -44,7 +44,10 @@ fn scalar_answer(
 
 /// The column that a loop over so many rows gives, or the fault of its first row without a result, which is counted from 0
 /// there and from 1 here.
-pub fn column_answer(rows: usize, computed: Result<Column, OpFault>) -> Result<MemoryValue, MemoryFault>
+pub fn column_answer(
+    rows: usize,
+    computed: Result<Column, OpFault>,
+) -> Result<MemoryValue, MemoryFault>
     requires { IsFaultBelow rows computed }
     ensures { IsOfColumn computed result }
 {
