@@ -6,9 +6,11 @@
 
 mod classes;
 mod distinct;
+mod operations;
 mod reductions;
 mod scans;
 
 pub use distinct::memory_distinct;
+pub use operations::{application_unless_groups, operation_unless_groups};
 pub use reductions::{memory_height, memory_reduce};
 pub use scans::memory_scan;
