@@ -20,7 +20,7 @@ use Rattle.tall_semantics.specs.Faults.{At, least_fault}
 use Rattle.tall_semantics.specs.Operations.{Op, binary, unary, filter, operation}
 use Rattle.tall_semantics.specs.Outcomes.{Outcome, rows, scalar, fault, fault_of, rows_in, cells_in}
 use Rattle.tall_semantics.specs.Spaces.{Space, is_single}
-use Rattle.tall_semantics.specs.Shapes.{Shape, Refusal, allowed, placed, common, masked_class, masked, on_column, place_of}
+use Rattle.tall_semantics.specs.Shapes.{Shape, ShapeRefusal, allowed, placed, common, masked_class, masked, on_column, place_of}
 use Rattle.tall_semantics.specs.ShapesInOrder.{IsMade, shape_at}
 use Rattle.tall_semantics.specs.Talls.{Columns, Tall, unless}
 use Rattle.tall_semantics.specs.Deferred.{Vertex}
@@ -33,8 +33,8 @@ use Rattle.tall_block.specs.Shown.{Shows}
 abbrev class_ok : Class → Result Class ClassFault
 class_ok c = Ok c
 
-class_taken : (c : Result Class ClassFault) (s : Result Space Refusal) (p : Class × Space) → placed (allowed c) s ≡ place_ok p → c ≡ class_ok p.0
-class_taken (Ok c) (Ok s) p h = ap (λ (r : Result (Class × Space) Refusal). elim r [ Ok q ↦ class_ok q.0 | Err e ↦ class_ok c ]) h
+class_taken : (c : Result Class ClassFault) (s : Result Space ShapeRefusal) (p : Class × Space) → placed (allowed c) s ≡ place_ok p → c ≡ class_ok p.0
+class_taken (Ok c) (Ok s) p h = ap (λ (r : Result (Class × Space) ShapeRefusal). elim r [ Ok q ↦ class_ok q.0 | Err e ↦ class_ok c ]) h
 class_taken (Ok c) (Err e) p h = absurd (cc)
 class_taken (Err MixedClass) s p h = absurd (cc)
 class_taken (Err BadClass) s p h = absurd (cc)
@@ -158,7 +158,7 @@ filter_taken vs made i a m e =
     let w = accepted_place vs made i filter (a ∷ m ∷ []) e in
     let x : Shape = shape_at vs a in
     let y : Shape = shape_at vs m in
-    let r : Result (Class × Space) Refusal = placed (allowed (masked_class x.class (logical_kind (kind_of y.class)))) (masked x.space y.space y.tree) in
+    let r : Result (Class × Space) ShapeRefusal = placed (allowed (masked_class x.class (logical_kind (kind_of y.class)))) (masked x.space y.space y.tree) in
     let t = mask_taken x.class y.class w.0.0 (class_taken (masked_class x.class (logical_kind (kind_of y.class))) (masked x.space y.space y.tree) w.0 (column_is y r w.0 (column_is x (on_column y r) w.0 w.1))) in
     (t.0, t.1 ∙ w.2)
 

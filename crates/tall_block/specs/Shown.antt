@@ -9,7 +9,7 @@ use Rattle.tall_dense.specs.declared.faults.OpFault.TheVariants as op_fault
 use Rattle.tall_semantics.specs.Faults.{At, fault_at}
 use Rattle.tall_semantics.specs.Outcomes.{Outcome, rows, fault}
 use Rattle.tall_blocks.specs.Carries.{Rows}
-use Rattle.tall_blocks.specs.RowPlaces.{number_at}
+use Rattle.tall_blocks.specs.RowPlaces.{row_number_at}
 
 -- the outcome has rows with these cells
 abbrev pub Shows : Outcome → List Seen → Type 0
@@ -19,5 +19,5 @@ Shows x cs = ⊥
 -- what an operation over the rows rs answers tells of the outcome of the expression `at`; want of memory tells nothing
 abbrev pub Tells : At → (rs : Rows) → Outcome → Result SeenColumn OpFault → Type 0
 Tells at rs x (Ok column) = Shows x column.cells
-Tells at rs x (Err (op_fault.At row e)) = x ≡ fault (fault_at at (Some (number_at rs row)) (data_fault e))
+Tells at rs x (Err (op_fault.At row e)) = x ≡ fault (fault_at at (Some (row_number_at rs row)) (data_fault e))
 Tells at rs x (Err op_fault.Memory) = Unit {0}

@@ -6,12 +6,12 @@ use Rattle.tall_value.specs.Cells.{Seen}
 use Rattle.tall_value.specs.Columns.{cells}
 use Rattle.tall_value.specs.Distinct.{distinct}
 use Rattle.tall_value.specs.Ends.{first_rows, last_rows}
-use Rattle.tall_value.specs.Reductions.{reduced}
+use Rattle.tall_value.specs.Reductions.{reduced, used}
 use Rattle.tall_value.specs.declared.class.Kind.{Kind}
 use Rattle.tall_value.specs.declared.functions.Reduction.{Reduction}
 use Rattle.tall_semantics.specs.Outcomes.{Outcome, rows, rows_in, cells_in}
 use Rattle.tall_blocks.specs.Carries.{Rows}
-use Rattle.tall_blocks.specs.Folds.{Fold, Kept, start, more, used, fold_of, omits, reduction_result}
+use Rattle.tall_blocks.specs.Folds.{Fold, Kept, start, more, reduction_fold, omits, reduction_result}
 use Rattle.tall_blocks.specs.GroupsOver.{groups_of}
 use Rattle.tall_blocks.specs.ValuesOver.{rows_of_blocks}
 use Rattle.tall_blocks.specs.FoldsOfBlocks.{AreAsLong, kept_of_blocks, first_of_blocks, last_of_blocks, distinct_of_blocks, groups_of_blocks}
@@ -73,8 +73,8 @@ groups_all g b ks ds (h ∷ hs) i j e long =
 -- ---- of a value with the rows of the blocks
 
 module _ (x : Outcome) (hs : List (ℕ → Outcome)) (i : ℕ) (is : x ≡ rows (rows_of_blocks hs i)) where
-  pub reduced_by_blocks : (r : Reduction) (a : Kind) → reduced r a (cells_in x) ≡ reduction_result r a (kept_of_blocks (fold_of r a) (omits r) (start (fold_of r a)) hs i)
-  reduced_by_blocks r a = reduced_kept r a (cells_in x) ∙ ap (reduction_result r a) (ap (λ o. more (fold_of r a) (start (fold_of r a)) (used (omits r) (cells_in o))) is ∙ kept_all (fold_of r a) (omits r) (start (fold_of r a)) hs i)
+  pub reduced_by_blocks : (r : Reduction) (a : Kind) → reduced r a (cells_in x) ≡ reduction_result r a (kept_of_blocks (reduction_fold r a) (omits r) (start (reduction_fold r a)) hs i)
+  reduced_by_blocks r a = reduced_kept r a (cells_in x) ∙ ap (reduction_result r a) (ap (λ o. more (reduction_fold r a) (start (reduction_fold r a)) (used (omits r) (cells_in o))) is ∙ kept_all (reduction_fold r a) (omits r) (start (reduction_fold r a)) hs i)
 
   pub first_by_blocks : (k : ℕ) → first_rows k (rows_in x) ≡ first_of_blocks k [] hs i
   first_by_blocks k = ap (λ o. first_rows k (rows_in o)) is ∙ (first_all k [] hs i ∙ ap (λ rs. first_of_blocks k rs hs i) (first_none k))

@@ -24,18 +24,18 @@ use Rattle.tall_value.specs.Classes.{least, greatest}
 use Rattle.tall_value.specs.Columns.{cells}
 use Rattle.tall_value.specs.Elementwise.{at_row, in_front}
 use Rattle.tall_value.specs.Groups.{or_nan}
-use Rattle.tall_value.specs.Reductions.{or_fault, present, is_present, lesser, greater, fold, folded}
+use Rattle.tall_value.specs.Reductions.{or_fault, present, is_present, lesser, greater, fold, folded, or_cell}
 use Rattle.tall_value.specs.Scans.{added, integer_sums, double_sums, better, bests, scanned}
 use Rattle.tall_value.specs.declared.class.Class.{Class}
 use Rattle.tall_value.specs.Classes.{kind_of}
 use Rattle.tall_value.specs.ClassTables.{class_result}
 use Rattle.tall_value.specs.FunctionClasses.{scan_kind, scan_class}
 use Rattle.tall_value.proofs.KindLaws.{kind_again}
-use Rattle.tall_semantics.specs.ScanCarries.{or_cell, fold_of}
+use Rattle.tall_semantics.specs.ScanCarries.{fold_of}
 use Rattle.tall_semantics.specs.Operations.{scan, operation}
 use Rattle.tall_semantics.specs.Spaces.{Space}
 use Rattle.tall_semantics.specs.Outcomes.{cells_in}
-use Rattle.tall_semantics.specs.Shapes.{Refusal, allowed, placed, place_of}
+use Rattle.tall_semantics.specs.Shapes.{ShapeRefusal, allowed, placed, place_of}
 use Rattle.tall_semantics.specs.Talls.{Tall, Columns, shapes}
 use Rattle.tall_semantics.specs.Deferred.{Vertex, IsMeaning, IsOrdered, IsAmong}
 use Rattle.tall_semantics.specs.RowsOfSpaces.{AreColumns}
@@ -47,9 +47,10 @@ use Rattle.tall_semantics.proofs.ShapeLaws.{place_ok, shaped_is, column_is}
 use Rattle.tall_blocks.specs.Carries.{Rows, or_inexact, scanned_behind, AllCells, HasScanKind}
 use Rattle.tall_blocks.specs.Folds.{exact_sum, value_of, best_joined}
 use Rattle.tall_blocks.proofs.Choices.{true_or_false}
-use Rattle.tall_blocks.proofs.FoldLaws.{value_joined, folded_append, clamped_append, greater_assoc, lesser_assoc}
+use Rattle.tall_value.proofs.SumLaws.{clamped_append}
+use Rattle.tall_blocks.proofs.FoldLaws.{value_joined, folded_append, greater_assoc, lesser_assoc}
 
-abbrev class_ok : Class → Result Class Refusal
+abbrev class_ok : Class → Result Class ShapeRefusal
 class_ok c = Ok c
 
 -- ---- cells
@@ -358,7 +359,7 @@ scan_cells : (P Q : Seen → Type 0) → ((d : Seen) → P d → Q d) → (cs : 
 scan_cells P Q one [] h = tt
 scan_cells P Q one (c ∷ cs) h = (one c (All-head P c cs h), scan_cells P Q one cs (All-tail P c cs h))
 
-placed_class : (c : Result Class Refusal) (s : Result Space Refusal) (p : Class × Space) → placed c s ≡ place_ok p → c ≡ class_ok p.0
+placed_class : (c : Result Class ShapeRefusal) (s : Result Space ShapeRefusal) (p : Class × Space) → placed c s ≡ place_ok p → c ≡ class_ok p.0
 placed_class (Ok c) (Ok s) p h = ap (λ r. elim r [ Ok q ↦ class_ok q.0 | Err e ↦ class_ok c ]) h
 placed_class (Ok c) (Err e) p h = absurd (cc)
 placed_class (Err e) s p h = absurd (cc)

@@ -27,12 +27,13 @@ use Rattle.tall_value.specs.CellOperators.{double_cell}
 use Rattle.tall_value.specs.Classes.{least, greatest}
 use Rattle.tall_value.specs.Columns.{cells}
 use Rattle.tall_value.specs.Elementwise.{at_row}
-use Rattle.tall_value.specs.Reductions.{present, is_present, lesser, greater, fold, folded}
-use Rattle.tall_semantics.specs.ScanCarries.{or_cell, fold_of, while_there, carries_behind}
+use Rattle.tall_value.specs.Reductions.{present, is_present, lesser, greater, fold, folded, or_cell}
+use Rattle.tall_semantics.specs.ScanCarries.{fold_of, while_there, carries_behind}
 use Rattle.tall_blocks.specs.Carries.{Rows, RowsOrFault, flat, rows_joined, or_inexact, scanned_behind, carry_for, AllCells, HasScanKind, IsInClass}
 use Rattle.tall_blocks.proofs.CarryLaws.{all_both, of_sum, of_test, to_fold, sum_of, plus, sums_add, sum_of_one, class_total, best_stands, end_stands, lesser_chooses, greater_chooses}
 use Rattle.tall_blocks.proofs.RowLaws.{scan_then}
-use Rattle.tall_blocks.proofs.FoldLaws.{clamped_append, greater_assoc, lesser_assoc}
+use Rattle.tall_value.proofs.SumLaws.{clamped_append}
+use Rattle.tall_blocks.proofs.FoldLaws.{greater_assoc, lesser_assoc}
 
 abbrev some_cell : Seen → Option Seen
 some_cell c = Some c

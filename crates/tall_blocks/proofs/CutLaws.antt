@@ -3,7 +3,7 @@ use Rattle.std.specs.Prelude.{◌≡◌, refl, ℕ, Bool, true, false, Some, Lis
 use Rattle.std.proofs.Common.{ap, sym, subst, ◌∙◌, inl, inr}
 use Rattle.tall_value.specs.declared.class.Class.{Class}
 use Rattle.tall_semantics.specs.Operations.{Op, constant, unary, binary, filter, reduce, scan, head, tail, distinct, group, Made, stored, operation}
-use Rattle.tall_semantics.specs.Spaces.{Space, single, rows_of, kept, first, last, groups, is_single, store_of}
+use Rattle.tall_semantics.specs.Spaces.{Space, single, rows_of, filtered, first, last, groups, is_single, store_of}
 use Rattle.tall_semantics.specs.Spaces as spaces
 use Rattle.tall_semantics.specs.Equality.{same_space}
 use Rattle.tall_semantics.specs.Shapes.{Shape, place_of, common, masked}
@@ -20,7 +20,7 @@ use Rattle.tall_semantics.proofs.SpaceLaws.{common_is}
 pub not_single : (s : ℕ) (u : Space) → store_of u ≡ Some s → is_single u ≡ false
 not_single s single e = absurd (cc)
 not_single s (rows_of t) e = refl
-not_single s (kept u t) e = refl
+not_single s (filtered u t) e = refl
 not_single s (first k u) e = refl
 not_single s (last k u) e = refl
 not_single s (spaces.distinct t) e = refl
@@ -62,8 +62,8 @@ module _ (s : ℕ) (f : ℕ → Tall) (cut : ℕ → Bool) where
   can_op filter (a ∷ []) p h r cuts known = absurd (refused p h)
   can_op filter (a ∷ m ∷ []) p h r cuts known =
       let q = placed_is _ (masked (f a).shape.space (f m).shape.space (f m).shape.tree) p (column_is (f m).shape _ p (column_is (f a).shape _ p h)) in
-      let t = tested (same_space (f a).shape.space (f m).shape.space) (kept (f a).shape.space (f m).shape.tree) p.1 q in
-      let ra : store_of (f a).shape.space ≡ Some s = moved (kept (f a).shape.space (f m).shape.tree) p.1 t.1 r in
+      let t = tested (same_space (f a).shape.space (f m).shape.space) (filtered (f a).shape.space (f m).shape.tree) p.1 q in
+      let ra : store_of (f a).shape.space ≡ Some s = moved (filtered (f a).shape.space (f m).shape.tree) p.1 t.1 r in
       (cuts a (inl refl) ra, cuts m (inr (inl refl)) (ap store_of (sym ((spaces_decided (f a).shape.space (f m).shape.space).0 t.0)) ∙ ra))
   can_op filter (a ∷ m ∷ d ∷ args) p h r cuts known = absurd (refused p h)
   can_op (scan k) [] p h r cuts known = absurd (refused p h)

@@ -3,7 +3,7 @@ use Rattle.std.specs.Prelude.{◌≡◌, refl, ℕ, true, false, None, Some, Lis
 use Rattle.std.proofs.Common.{ap, sym, subst, ◌∙◌, inl, inr}
 use Rattle.tall_value.specs.declared.class.Class.{Class}
 use Rattle.tall_semantics.specs.Operations.{Op, constant, unary, binary, filter, reduce, scan, head, tail, distinct, group, operation}
-use Rattle.tall_semantics.specs.Spaces.{Space, kept, store_of}
+use Rattle.tall_semantics.specs.Spaces.{Space, filtered, store_of}
 use Rattle.tall_semantics.specs.Equality.{same_space}
 use Rattle.tall_semantics.specs.Shapes.{Shape, place_of, common, masked, on_column}
 use Rattle.tall_semantics.specs.Shapes as shaping
@@ -65,7 +65,7 @@ module _ (s : ℕ) (f : ℕ → Tall) where
   ended filter (b ∷ []) p h n a m r = absurd (refused p h)
   ended filter (b ∷ k ∷ []) p h n a m r =
       let q = placed_is _ (masked (f b).shape.space (f k).shape.space (f k).shape.tree) p (column_is (f k).shape _ p (column_is (f b).shape _ p h)) in
-      let t = tested (same_space (f b).shape.space (f k).shape.space) (kept (f b).shape.space (f k).shape.tree) p.1 q in
+      let t = tested (same_space (f b).shape.space (f k).shape.space) (filtered (f b).shape.space (f k).shape.tree) p.1 q in
       let same : (f b).shape.space ≡ (f k).shape.space = (spaces_decided (f b).shape.space (f k).shape.space).0 t.0 in
       let rb : HasRowsOf b = both_rows b k a same m r b (inl refl) in
       absurd (let z : Some s ≡ None = sym rb ∙ (ap store_of t.1 ∙ n) in cc)

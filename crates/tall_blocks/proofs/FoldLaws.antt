@@ -23,10 +23,11 @@ use Rattle.tall_value.specs.CellOrder.{cell_order}
 use Rattle.tall_value.specs.Classes.{least, greatest}
 use Rattle.tall_value.specs.Filters.{is_true}
 use Rattle.tall_value.specs.Groups.{group_value}
-use Rattle.tall_value.specs.Reductions.{total, fold, folded, lesser, greater, present, is_present, is_nonzero, native_total, reduced}
+use Rattle.tall_value.specs.Reductions.{total, fold, folded, lesser, greater, present, is_present, is_nonzero, native_total, reduced, used, every_cell}
 use Rattle.tall_value.proofs.OrderLaws.{cells_total}
+use Rattle.tall_value.proofs.SumLaws.{total_append, clamped_append}
 use Rattle.tall_blocks.proofs.Choices.{true_or_false, if_true, if_false}
-use Rattle.tall_blocks.specs.Folds.{PartFold, exact_sum, least_cell, greatest_cell, some_true, all_true, number_of, Value, value_of, best_joined, joined, Fold, by_parts, class_sum, Kept, start, more, used, native_fold, native_result, every_cell, fold_of, omits, reduction_result, number_result, method_fold, method_omits, method_result}
+use Rattle.tall_blocks.specs.Folds.{PartFold, exact_sum, least_cell, greatest_cell, some_true, all_true, number_of, Value, value_of, best_joined, joined, Fold, by_parts, class_sum, Kept, start, more, native_fold, native_result, reduction_fold, omits, reduction_result, number_result, method_fold, method_omits, method_result}
 
 -- ---- the least and the greatest
 
@@ -102,10 +103,6 @@ module _ (f : Seen → Seen → Seen) (assoc : (c d e : Seen) → f (f c d) e �
 
 -- ---- folds whose parts join
 
-pub total_append : (xs ys : List ℤ) → total (xs ++ ys) ≡ total xs +ℤ total ys
-total_append [] ys = omega (arith, ints)
-total_append (x ∷ xs) ys = (let h = total_append xs ys in omega (arith, ints, h))
-
 pub or_assoc : (a b c : Bool) → (a || (b || c)) ≡ ((a || b) || c)
 or_assoc true b c = refl
 or_assoc false b c = refl
@@ -141,10 +138,6 @@ joined_start all_true s = refl
 joined_start (number_of test) s = (let e : 0 + s ≡ s = omega (arith) in e)
 
 -- ---- all folds
-
-pub clamped_append : (low high sum : ℤ) (xs ys : List ℤ) → clamped_sum low high sum (xs ++ ys) ≡ clamped_sum low high (clamped_sum low high sum xs) ys
-clamped_append low high sum [] ys = refl
-clamped_append low high sum (x ∷ xs) ys = clamped_append low high (nearest low high (sum +ℤ x)) xs ys
 
 pub more_append : (g : Fold) (s : Kept g) (cs ds : List Seen) → more g s (cs ++ ds) ≡ more g (more g s cs) ds
 more_append (by_parts p) s cs ds = ap (joined p s) (value_joined p cs ds) ∙ joined_assoc p s (value_of p cs) (value_of p ds)
@@ -197,7 +190,7 @@ native_kept Text cs = ap (native_result Text) (sym (from_start exact_sum cs))
 count_kept : (cs : List Seen) → number_result (length cs) ≡ number_result (more (by_parts (number_of every_cell)) (start (by_parts (number_of every_cell))) cs)
 count_kept cs = ap number_result (ap length (sym (every_one cs)) ∙ sym (from_start (number_of every_cell) cs))
 
-pub reduced_kept : (r : Reduction) (a : Kind) (cs : List Seen) → reduced r a cs ≡ reduction_result r a (more (fold_of r a) (start (fold_of r a)) (used (omits r) cs))
+pub reduced_kept : (r : Reduction) (a : Kind) (cs : List Seen) → reduced r a cs ≡ reduction_result r a (more (reduction_fold r a) (start (reduction_fold r a)) (used (omits r) cs))
 reduced_kept (reduction.Sum false false) a cs = ap (reduction_result (reduction.Sum false false) a) (sym (from_start exact_sum cs))
 reduced_kept (reduction.Sum false true) a cs = ap (reduction_result (reduction.Sum false true) a) (sym (from_start exact_sum (present cs)))
 reduced_kept (reduction.Sum true false) a cs = native_kept a cs
@@ -220,7 +213,7 @@ group_kept method.Nnz a cs = ap number_result (sym (from_start (number_of is_non
 group_kept method.Nummissing a cs = ap number_result (sym (from_start (number_of is_nan) cs))
 
 -- a reduction over some cells and then others
-pub reduced_append : (r : Reduction) (a : Kind) (cs ds : List Seen) → reduced r a (cs ++ ds) ≡ reduction_result r a (more (fold_of r a) (more (fold_of r a) (start (fold_of r a)) (used (omits r) cs)) (used (omits r) ds))
+pub reduced_append : (r : Reduction) (a : Kind) (cs ds : List Seen) → reduced r a (cs ++ ds) ≡ reduction_result r a (more (reduction_fold r a) (more (reduction_fold r a) (start (reduction_fold r a)) (used (omits r) cs)) (used (omits r) ds))
 reduced_append r a cs ds =
     reduced_kept r a (cs ++ ds)
-    ∙ ap (reduction_result r a) (ap (more (fold_of r a) (start (fold_of r a))) (used_append (omits r) cs ds) ∙ more_append (fold_of r a) (start (fold_of r a)) (used (omits r) cs) (used (omits r) ds))
+    ∙ ap (reduction_result r a) (ap (more (reduction_fold r a) (start (reduction_fold r a))) (used_append (omits r) cs ds) ∙ more_append (reduction_fold r a) (start (reduction_fold r a)) (used (omits r) cs) (used (omits r) ds))

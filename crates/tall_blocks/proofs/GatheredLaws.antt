@@ -27,7 +27,8 @@ use Rattle.tall_semantics.proofs.OriginLaws.{get_before, below_among, faults_of_
 use Rattle.tall_semantics.proofs.ShapeLaws.{place_ok, shaped_is, column_is, group_spaces}
 use Rattle.tall_blocks.specs.Blocks.{Block}
 use Rattle.tall_blocks.specs.Carries.{Rows}
-use Rattle.tall_blocks.specs.Folds.{Kept, start, more, used, by_parts, number_of, every_cell, fold_of, omits, reduction_result, method_fold, method_omits}
+use Rattle.tall_blocks.specs.Folds.{Kept, start, more, by_parts, number_of, reduction_fold, omits, reduction_result, method_fold, method_omits}
+use Rattle.tall_value.specs.Reductions.{used, every_cell}
 use Rattle.tall_blocks.specs.FoldsOfBlocks.{AreAsLong, kept_of_blocks, first_of_blocks, last_of_blocks, distinct_of_blocks, groups_of_blocks}
 use Rattle.tall_blocks.specs.Gathered.{Gathered, gathered_more, gathered_from, gathered_all, gathered_columns, group_column, or_one, end_outcome}
 use Rattle.tall_blocks.specs.GroupsOver.{keys_of, groups_of}
@@ -41,9 +42,9 @@ use Rattle.tall_blocks.proofs.SeenLaws.{all_none, unless_none}
 
 -- ---- the two ways to go over the blocks
 
-reduced_from : (r : Reduction) (a : Kind) (s : Kept (fold_of r a)) (hs : List (ℕ → Outcome)) (i j : ℕ) → gathered_from (reduce r) a s hs i j ≡ kept_of_blocks (fold_of r a) (omits r) s hs i
+reduced_from : (r : Reduction) (a : Kind) (s : Kept (reduction_fold r a)) (hs : List (ℕ → Outcome)) (i j : ℕ) → gathered_from (reduce r) a s hs i j ≡ kept_of_blocks (reduction_fold r a) (omits r) s hs i
 reduced_from r a s [] i j = refl
-reduced_from r a s (h ∷ hs) i j = reduced_from r a (more (fold_of r a) s (used (omits r) (cells_in (h i)))) hs i j
+reduced_from r a s (h ∷ hs) i j = reduced_from r a (more (reduction_fold r a) s (used (omits r) (cells_in (h i)))) hs i j
 
 first_from : (k : ℕ) (a : Kind) (s : Rows) (hs : List (ℕ → Outcome)) (i j : ℕ) → gathered_from (head k) a s hs i j ≡ first_of_blocks k s hs i
 first_from k a s [] i j = refl
@@ -117,7 +118,7 @@ module _ (columns : Columns) (of_stores : ℕ → List ℕ) (vs : List Vertex) (
   end_op at (reduce r) [] needs plain ready space = refl
   end_op at (reduce r) (i ∷ []) needs plain ready space =
       let a : Kind = kind_of (f i).shape.class in
-      ap (alone at) (reduced_by_blocks (f i).outcome Hs i (rows_ready i (ready i (inl refl))) r a ∙ ap (reduction_result r a) (sym (reduced_from r a (start (fold_of r a)) Hs i i)))
+      ap (alone at) (reduced_by_blocks (f i).outcome Hs i (rows_ready i (ready i (inl refl))) r a ∙ ap (reduction_result r a) (sym (reduced_from r a (start (reduction_fold r a)) Hs i i)))
   end_op at (reduce r) (i ∷ j ∷ args) needs plain ready space = refl
   end_op at (head k) [] needs plain ready space = refl
   end_op at (head k) (i ∷ []) needs plain ready space = ap rows (first_by_blocks (f i).outcome Hs i (rows_ready i (ready i (inl refl))) k ∙ sym (first_from k (kind_of (f i).shape.class) [] Hs i i))

@@ -14,9 +14,9 @@ use Rattle.tall_value.specs.Cells.{Seen, whole, logical, double, text, is_nan}
 use Rattle.tall_value.specs.CellOrder.{cell_order}
 use Rattle.tall_value.specs.Distinct.{by_order, insert, ascending}
 use Rattle.tall_value.specs.Groups.{group_keys, is_of_group, group_data, group_counts, group_value, all_values, group_values}
-use Rattle.tall_value.specs.Reductions.{present, is_present, count}
+use Rattle.tall_value.specs.Reductions.{present, is_present, count, used, every_cell}
 use Rattle.tall_value.proofs.OrderLaws.{cells_total}
-use Rattle.tall_blocks.specs.Folds.{PartFold, number_of, value_of, joined, Fold, by_parts, class_sum, Kept, start, more, used, every_cell, method_fold, method_omits, method_result}
+use Rattle.tall_blocks.specs.Folds.{PartFold, number_of, value_of, joined, Fold, by_parts, class_sum, Kept, start, more, method_fold, method_omits, method_result}
 use Rattle.tall_blocks.specs.GroupsOver.{kept_of, groups_of, at_key, keys_of, groups_more, groups_joined}
 use Rattle.tall_blocks.proofs.DistinctLaws.{same_order, ascending_front, ascending_of_both, present_ascending, no_nan_ascending}
 use Rattle.tall_blocks.proofs.FoldLaws.{joined_start, more_append, used_append, group_kept, every_one, from_start, or_assoc}

@@ -9,7 +9,7 @@ use Rattle.tall_semantics.specs.Faults.{Fault, earlier, precedes}
 use Rattle.tall_semantics.specs.Outcomes.{Outcome, fault_of}
 use Rattle.tall_semantics.specs.Talls.{Tall, Columns}
 use Rattle.tall_semantics.specs.Least.{AtMost, IsLeast}
-use Rattle.tall_semantics.specs.Numbered.{never_fails, AreStored, OfOneMethod, AreNumbered}
+use Rattle.tall_semantics.specs.Numbered.{never_fails, AreBothStored, OfOneMethod, AreNumbered}
 use Rattle.tall_semantics.specs.Deferred.{Vertex, IsOrdered, IsAmong, DependsOn, itself, through, fault_in, least_in, own_in}
 use Rattle.tall_blocks.specs.Blocks.{IsVariable}
 use Rattle.tall_blocks.specs.Cut.{CanBeCut, AreCut, AreAligned, IsCutWork}
@@ -40,7 +40,7 @@ path_number vs ordered numbered a j u w e g (through i b l v d among rest) =
     let n : u.at.number ≡ v.at.number = ap (λ (x : Vertex). x.at.number) q in
     omega (arith, one, more, n)
 
-pub no_args : (f : ℕ → Tall) (cut : ℕ → Bool) (m n : Made) (args : List ℕ) (a : ℕ) → CanBeCut f cut m args → AreStored m n → IsAmong args a → ⊥
+pub no_args : (f : ℕ → Tall) (cut : ℕ → Bool) (m n : Made) (args : List ℕ) (a : ℕ) → CanBeCut f cut m args → AreBothStored m n → IsAmong args a → ⊥
 no_args f cut (stored s b c) n args a can h i = subst (λ xs. IsAmong xs a) can i
 no_args f cut (operation op) n args a can h i = h
 

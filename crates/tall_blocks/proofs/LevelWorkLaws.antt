@@ -5,7 +5,7 @@ use Rattle.std.proofs.Common.{ap, sym, subst, ◌∙◌, arith, inl, inr}
 use Rattle.tall_value.specs.declared.class.Class.{Class}
 use Rattle.tall_value.specs.declared.functions.Scan.{Scan}
 use Rattle.tall_semantics.specs.Operations.{scan, Made, stored, operation}
-use Rattle.tall_semantics.specs.Spaces.{Space, single, rows_of, kept, first, last, groups, has_rows, store_of}
+use Rattle.tall_semantics.specs.Spaces.{Space, single, rows_of, filtered, first, last, groups, has_rows, store_of}
 use Rattle.tall_semantics.specs.Spaces as spaces
 use Rattle.tall_semantics.specs.Faults.{Fault}
 use Rattle.tall_semantics.specs.Shapes.{Shape, level, greatest_level, place_of}
@@ -155,7 +155,7 @@ module _ (vs : List Vertex) (ordered : IsOrdered vs) (roots : List ℕ) (there :
 some_store : (u : Space) → has_rows u ≡ true → (s : ℕ) × (store_of u ≡ Some s)
 some_store single h = absurd (cc)
 some_store (rows_of s) h = (s, refl)
-some_store (kept u m) h = some_store u h
+some_store (filtered u m) h = some_store u h
 some_store (first k u) h = absurd (cc)
 some_store (last k u) h = absurd (cc)
 some_store (spaces.distinct t) h = absurd (cc)
@@ -164,7 +164,7 @@ some_store (groups m k d) h = absurd (cc)
 no_store : (u : Space) → has_rows u ≡ false → store_of u ≡ None
 no_store single h = refl
 no_store (rows_of s) h = absurd (cc)
-no_store (kept u m) h = no_store u h
+no_store (filtered u m) h = no_store u h
 no_store (first k u) h = refl
 no_store (last k u) h = refl
 no_store (spaces.distinct t) h = refl
@@ -173,7 +173,7 @@ no_store (groups m k d) h = refl
 with_store : (u : Space) (s : ℕ) → store_of u ≡ Some s → has_rows u ≡ true
 with_store single s h = absurd (cc)
 with_store (rows_of t) s h = refl
-with_store (kept u m) s h = with_store u s h
+with_store (filtered u m) s h = with_store u s h
 with_store (first k u) s h = absurd (cc)
 with_store (last k u) s h = absurd (cc)
 with_store (spaces.distinct t) s h = absurd (cc)

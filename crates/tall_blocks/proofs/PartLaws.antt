@@ -10,12 +10,12 @@ use Rattle.tall_value.specs.Cells.{Seen}
 use Rattle.tall_value.specs.Distinct.{distinct}
 use Rattle.tall_value.specs.Ends.{first_rows, last_rows}
 use Rattle.tall_value.specs.Groups.{group_keys, group_data}
-use Rattle.tall_value.specs.Reductions.{exact_total}
+use Rattle.tall_value.specs.Reductions.{exact_total, used, every_cell}
 use Rattle.tall_semantics.specs.Operations.{Op, constant, unary, binary, filter, reduce, scan, head, tail, group}
 use Rattle.tall_semantics.specs.Operations as operations
 use Rattle.tall_semantics.specs.Outcomes.{Outcome, rows_in, cells_in}
 use Rattle.tall_semantics.specs.ScanCarries.{fold_of}
-use Rattle.tall_blocks.specs.Folds.{Fold, by_parts, class_sum, exact_sum, Kept, Part, start, more, part_of, with_part, used, number_of, every_cell, method_fold, method_omits, total_result, value_of}
+use Rattle.tall_blocks.specs.Folds.{Fold, by_parts, class_sum, exact_sum, Kept, Part, start, more, part_of, with_part, number_of, method_fold, method_omits, total_result, value_of}
 use Rattle.tall_blocks.specs.Folds as folds
 use Rattle.tall_blocks.specs.Gathered.{Gathered, block_part, gathered_more, gathered_with}
 use Rattle.tall_blocks.specs.GroupsOver.{Groups, group_parts, groups_more, groups_with, at_key, keys_of}
@@ -58,7 +58,7 @@ groups_parts g b es ks ds =
 -- ---- values that need all rows
 
 pub gathered_by_parts : (op : Op) (a : Kind) (s : Gathered op a) (x y : Outcome) → gathered_more op a s x y ≡ gathered_with op a s (block_part op a x y)
-gathered_by_parts (reduce r) a s x y = more_parts (folds.fold_of r a) s (used (folds.omits r) (cells_in x))
+gathered_by_parts (reduce r) a s x y = more_parts (folds.reduction_fold r a) s (used (folds.omits r) (cells_in x))
 gathered_by_parts (head k) a s x y = first_of_both k s (rows_in x) ∙ first_front k s (first_rows k (rows_in x))
 gathered_by_parts (tail k) a s x y = last_of_both k s (rows_in x) ∙ last_front k s (last_rows k (rows_in x))
 gathered_by_parts operations.distinct a s x y = distinct_of_both s (cells_in x) ∙ distinct_front s (distinct (cells_in x))

@@ -4,7 +4,7 @@ use Rattle.std.proofs.Common.{ap, sym, subst, ◌∙◌, arith, inl, inr}
 use Rattle.std.proofs.lemmas.Bool.Decides.{nat_tests}
 use Rattle.tall_semantics.specs.Operations.{scan, Made, stored, operation}
 use Rattle.tall_semantics.specs.ScanLevels.{AreScans, scans_by}
-use Rattle.tall_semantics.specs.Spaces.{Space, single, rows_of, kept, first, last, groups, is_single, has_rows, store_of}
+use Rattle.tall_semantics.specs.Spaces.{Space, single, rows_of, filtered, first, last, groups, is_single, has_rows, store_of}
 use Rattle.tall_semantics.specs.Spaces as spaces
 use Rattle.tall_semantics.specs.Faults.{Fault, earlier, precedes}
 use Rattle.tall_semantics.specs.Outcomes.{Outcome, rows, scalar, fault, fault_of}
@@ -13,7 +13,7 @@ use Rattle.tall_semantics.specs.Talls.{Tall, Columns, shapes, made_tall}
 use Rattle.tall_semantics.specs.Deferred.{Vertex, IsMeaning, IsAmong, AreThere, AreUnder, DependsOn, itself, through, fault_in, least_in, own_in}
 use Rattle.tall_semantics.specs.Least.{AtMost, IsLeast, IsBelow}
 use Rattle.tall_semantics.specs.Levels.{UpTo}
-use Rattle.tall_semantics.specs.Numbered.{AreNumbered, AreStored, never_fails, nodes_by, number_at, levels_in, IsGather}
+use Rattle.tall_semantics.specs.Numbered.{AreNumbered, AreBothStored, never_fails, nodes_by, number_at, levels_in, IsGather}
 use Rattle.tall_semantics.specs.Ranks.{is_in_pass, rank, rank_at, ranks_in}
 use Rattle.tall_semantics.specs.RowsOfSpaces.{AreColumns, Fits}
 use Rattle.tall_semantics.proofs.Basics.{both, inside}
@@ -42,7 +42,7 @@ use Rattle.tall_blocks.proofs.CutLaws.{not_single}
 store_rows : (s : ℕ) (u : Space) → store_of u ≡ Some s → has_rows u ≡ true
 store_rows s single e = absurd (cc)
 store_rows s (rows_of t) e = refl
-store_rows s (kept u t) e = store_rows s u e
+store_rows s (filtered u t) e = store_rows s u e
 store_rows s (first k u) e = absurd (cc)
 store_rows s (last k u) e = absurd (cc)
 store_rows s (spaces.distinct t) e = absurd (cc)
@@ -51,7 +51,7 @@ store_rows s (groups m k d) e = absurd (cc)
 no_rows : (u : Space) → is_single u ≡ true → has_rows u ≡ false
 no_rows single e = refl
 no_rows (rows_of t) e = absurd (cc)
-no_rows (kept u t) e = absurd (cc)
+no_rows (filtered u t) e = absurd (cc)
 no_rows (first k u) e = refl
 no_rows (last k u) e = refl
 no_rows (spaces.distinct t) e = refl
@@ -122,7 +122,7 @@ never_none columns vs f meaning i v (operation op) x e q n y t =
     let w : None ≡ Some x = sym z ∙ y in
     cc
 
-no_operand : (columns : Columns) (v : Vertex) (m n : Made) (f : ℕ → Tall) (args : List ℕ) (a : ℕ) (t : Tall) → AreStored m n → made_tall columns v.at m (map f args) ≡ tall_ok t → IsAmong args a → ⊥
+no_operand : (columns : Columns) (v : Vertex) (m n : Made) (f : ℕ → Tall) (args : List ℕ) (a : ℕ) (t : Tall) → AreBothStored m n → made_tall columns v.at m (map f args) ≡ tall_ok t → IsAmong args a → ⊥
 no_operand columns v (stored s b k) n f [] a t st h among = among
 no_operand columns v (stored s b k) n f (d ∷ args) a t st h among = cc
 no_operand columns v (operation op) n f args a t st h among = st
@@ -277,12 +277,12 @@ module _ (columns : Columns) (of_stores : ℕ → List ℕ) (vs : List Vertex) (
             ]
           ]
         where
-          both_ways : (m n : Made) → AreStored m n → AreStored n m
+          both_ways : (m n : Made) → AreBothStored m n → AreBothStored n m
           both_ways (stored s d e) (stored t w g) h = tt
           both_ways (stored s d e) (operation op) h = h
           both_ways (operation op) n h = absurd h
 
-          stored_end : (v : Vertex) (m n : Made) (a : ℕ) → IsAmong v.args a → AreStored m n → made_tall columns v.at m (map f v.args) ≡ tall_ok (f j) → ⊥
+          stored_end : (v : Vertex) (m n : Made) (a : ℕ) → IsAmong v.args a → AreBothStored m n → made_tall columns v.at m (map f v.args) ≡ tall_ok (f j) → ⊥
           stored_end v m n a among st h = no_operand columns v m n f v.args a (f j) st h among
 
       below_or_found : (p : Option Fault) (n : ℕ) → IsBelow p n ⊎ ((z : Fault) × (p ≡ Some z) × (z.number ≤ n))

@@ -10,7 +10,7 @@ use Rattle.tall_semantics.specs.Outcomes.{Outcome, fault_of}
 use Rattle.tall_semantics.specs.Talls.{Tall, Columns}
 use Rattle.tall_semantics.specs.Deferred.{Vertex, IsAmong, own_in}
 use Rattle.tall_semantics.specs.Least.{AtMost, IsLeast, IsBelow}
-use Rattle.tall_semantics.specs.Numbered.{AreStored, never_fails, number_at}
+use Rattle.tall_semantics.specs.Numbered.{AreBothStored, never_fails, number_at}
 use Rattle.tall_semantics.proofs.Basics.{inside}
 use Rattle.tall_semantics.proofs.LevelLaws.{compare}
 use Rattle.tall_semantics.proofs.OrderLaws.{at_most_itself, never_both, not_before, by_number, lesser_number}
@@ -204,7 +204,7 @@ module _ (columns : Columns) (of_stores : ℕ → List ℕ) (vs : List Vertex) (
         let c : cut i ≡ true = (cut_work.there i p).0 in
         (w.0, w.1, own_fault_number over Can (λ j v s a e d q. refl) i w.0 w.0.made x w.1 c refl w.2 w.3, can_fail over Can i w.0 w.0.made x w.1 c refl w.2 w.3)
 
-    stored_or : (i : ℕ) (v : Vertex) (m n : Made) (x : Fault) → slice_get vs i ≡ Some v → IsAmong work i → v.made ≡ m → AreStored m n → Own h i ≡ Some x → ⊥
+    stored_or : (i : ℕ) (v : Vertex) (m n : Made) (x : Fault) → slice_get vs i ≡ Some v → IsAmong work i → v.made ≡ m → AreBothStored m n → Own h i ≡ Some x → ⊥
     stored_or i v (stored s a k) n x e p q st own =
         let w = own_split (value_over f h) (slice_get vs i) i x own in
         let same : v ≡ w.0 = inside v w.0 (sym e ∙ w.1) in

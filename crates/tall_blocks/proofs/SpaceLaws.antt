@@ -20,7 +20,7 @@ use Rattle.tall_semantics.specs.ScanCarries.{fold_of}
 use Rattle.tall_semantics.specs.Equality.{same_space}
 use Rattle.tall_semantics.proofs.RowNumberLaws.{numbers, ok_rows, ok_inside, each_row_numbers, each_pair_numbers, kept_numbers}
 use Rattle.tall_semantics.proofs.SpaceLaws.{num_one, num_rows, num_alone, common_is}
-use Rattle.tall_semantics.specs.Spaces.{Space, rows_of, kept}
+use Rattle.tall_semantics.specs.Spaces.{Space, rows_of, filtered}
 use Rattle.tall_semantics.specs.Faults.{At}
 use Rattle.tall_semantics.specs.Outcomes.{Outcome, rows, scalar, fault, fault_of, rows_in, cells_in, elementwise_two}
 use Rattle.tall_semantics.specs.RowsOfSpaces.{numbers_in}
@@ -83,7 +83,7 @@ module _ (whole : Columns) {columns : Columns} {so_far : ℕ → List Seen} {vs 
   data View (i : ℕ) : Type 0 where
     base : (v : Vertex) (s a : ℕ) → slice_get vs i ≡ Some v → cut i ≡ true → IsVariable v.made s a → (f i).shape.space ≡ rows_of s → h i ≡ columns s a → View i
     lower : (a : ℕ) → a < i → FreeAt a → (f a).shape.space ≡ (f i).shape.space → numbers_in (h i) ≡ numbers_in (h a) → View i
-    masks : (x m : ℕ) → x < i → m < i → FreeAt x → FreeAt m → (f i).shape.space ≡ kept (f x).shape.space (f m).shape.tree → numbers_in (h i) ≡ filters.kept (numbers_in (h x)) (cells_in (h m)) → View i
+    masks : (x m : ℕ) → x < i → m < i → FreeAt x → FreeAt m → (f i).shape.space ≡ filtered (f x).shape.space (f m).shape.tree → numbers_in (h i) ≡ filters.kept (numbers_in (h x)) (cells_in (h m)) → View i
 
   abbrev AreEqualBelow : ℕ → Type 0
   AreEqualBelow i = (a b : ℕ) → a < i → b < i → FreeAt a → FreeAt b → (f a).shape.space ≡ (f b).shape.space → numbers_in (h a) ≡ numbers_in (h b)
@@ -133,7 +133,7 @@ module _ (whole : Columns) {columns : Columns} {so_far : ℕ → List Seen} {vs 
   view_op i c at filter (x ∷ m ∷ []) p s t k less place o n equal =
       let q = placed_is _ (masked (f x).shape.space (f m).shape.space (f m).shape.tree) p (column_is (f m).shape _ p (column_is (f x).shape _ p s)) in
       masks x m (less x (inl refl)) (less m (inr (inl refl))) (place x (inl refl) k.0) (place m (inr (inl refl)) k.1)
-      (sym ((tested (same_space (f x).shape.space (f m).shape.space) (kept (f x).shape.space (f m).shape.tree) p.1 q).1 ∙ t))
+      (sym ((tested (same_space (f x).shape.space (f m).shape.space) (filtered (f x).shape.space (f m).shape.tree) p.1 q).1 ∙ t))
       (ap numbers_in o ∙ kept_numbers (rows_in (h x)) (cells_in (h m)))
   view_op i c at filter (x ∷ m ∷ d ∷ args) p s t k less place o n equal = absurd k
   view_op i c at (scan r) [] p s t k less place o n equal = absurd k
@@ -165,11 +165,11 @@ module _ (whole : Columns) {columns : Columns} {so_far : ℕ → List Seen} {vs 
   base_of s = 0
 
   inner_of : Space → Space
-  inner_of (kept s t) = s
+  inner_of (filtered s t) = s
   inner_of s = s
 
   mask_of : Space → Tree
-  mask_of (kept s t) = t
+  mask_of (filtered s t) = t
   mask_of s = leaf filter
 
   compared : (i j : ℕ) → View i → View j → (f i).shape.space ≡ (f j).shape.space
@@ -183,10 +183,10 @@ module _ (whole : Columns) {columns : Columns} {so_far : ℕ → List Seen} {vs 
   compared i j (base v s a e c m p x) (base w u b g d n q y) t down_i down_j both =
       let same : s ≡ u = ap base_of (sym p ∙ (t ∙ q)) in
       ap numbers_in x ∙ (of_spaces.same_numbers i j v w s a b e g c d m (subst (λ k. IsVariable w.made k b) (sym same) n) ∙ (ap (λ k. numbers_in (columns k b)) same ∙ sym (ap numbers_in y)))
-  compared i j (base v s a e c d p x) (masks y m ly lm py pm q n) t down_i down_j both = absurd (let z : rows_of s ≡ kept (f y).shape.space (f m).shape.tree = sym p ∙ (t ∙ q) in cc)
-  compared i j (masks x m lx lm px pm p n) (base w u b g c d q y) t down_i down_j both = absurd (let z : kept (f x).shape.space (f m).shape.tree ≡ rows_of u = sym p ∙ (t ∙ q) in cc)
+  compared i j (base v s a e c d p x) (masks y m ly lm py pm q n) t down_i down_j both = absurd (let z : rows_of s ≡ filtered (f y).shape.space (f m).shape.tree = sym p ∙ (t ∙ q) in cc)
+  compared i j (masks x m lx lm px pm p n) (base w u b g c d q y) t down_i down_j both = absurd (let z : filtered (f x).shape.space (f m).shape.tree ≡ rows_of u = sym p ∙ (t ∙ q) in cc)
   compared i j (masks x m lx lm px pm p n) (masks y k ly lk py pk q o) t down_i down_j both =
-      let z : kept (f x).shape.space (f m).shape.tree ≡ kept (f y).shape.space (f k).shape.tree = sym p ∙ (t ∙ q) in
+      let z : filtered (f x).shape.space (f m).shape.tree ≡ filtered (f y).shape.space (f k).shape.tree = sym p ∙ (t ∙ q) in
       let inner : numbers_in (h x) ≡ numbers_in (h y) = both x y lx ly px py (ap inner_of z) in
       let mask : h m ≡ h k = tree_same whole meaning ordered over can of_spaces m k pm.u pk.u pm.there pk.there pm.is_cut pk.is_cut (ap mask_of z) pm.none pk.none in
       n ∙ (ap (λ ns. filters.kept ns (cells_in (h m))) inner ∙ (ap (λ r. filters.kept (numbers_in (h y)) (cells_in r)) mask ∙ sym o))
@@ -217,7 +217,7 @@ module _ (whole : Columns) {columns : Columns} {so_far : ℕ → List Seen} {vs 
           z.0 (of_spaces.cut_rows a u there_a ca) ∙ sym (z.1 (of_spaces.cut_rows b w there_b cb))
       at_two filter s k =
           let q = placed_is _ (masked (f a).shape.space (f b).shape.space (f b).shape.tree) p (column_is (f b).shape _ p (column_is (f a).shape _ p s)) in
-          (spaces_decided (f a).shape.space (f b).shape.space).0 (tested (same_space (f a).shape.space (f b).shape.space) (kept (f a).shape.space (f b).shape.tree) p.1 q).0
+          (spaces_decided (f a).shape.space (f b).shape.space).0 (tested (same_space (f a).shape.space (f b).shape.space) (filtered (f a).shape.space (f b).shape.tree) p.1 q).0
       at_two (constant x) s k = absurd k
       at_two (unary op) s k = absurd k
       at_two (scan r) s k = absurd k

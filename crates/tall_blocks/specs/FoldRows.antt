@@ -6,9 +6,9 @@ use Rattle.tall_value.specs.declared.faults.FaultKind.TheVariants.{Inexact, NoRo
 use Rattle.tall_value.specs.declared.functions.Method.TheVariants as method
 use Rattle.tall_value.specs.declared.functions.Reduction.TheVariants.{Sum, Min, Max, Any, All, Nnz, Numel, Height}
 use Rattle.tall_value.specs.Cells.{Seen, whole, logical}
-use Rattle.tall_value.specs.Reductions.{lesser, is_nonzero}
+use Rattle.tall_value.specs.Reductions.{lesser, is_nonzero, used}
 use Rattle.tall_semantics.specs.Samples.{number, nan}
-use Rattle.tall_blocks.specs.Folds.{exact_sum, least_cell, greatest_cell, some_true, all_true, number_of, value_of, best_joined, joined, class_sum, start, more, part_of, with_part, used, fold_of, omits, reduction_result, method_fold, method_omits, method_result}
+use Rattle.tall_blocks.specs.Folds.{exact_sum, least_cell, greatest_cell, some_true, all_true, number_of, value_of, best_joined, joined, class_sum, start, more, part_of, with_part, reduction_fold, omits, reduction_result, method_fold, method_omits, method_result}
 
 abbrev small : ℤ → Seen
 small n = whole Int8 n
@@ -78,7 +78,7 @@ cells_used : used true (nan ∷ number (pos 1) ∷ []) ≡ number (pos 1) ∷ []
 cells_used = refl
 
 -- the least of no cells: refused as a reduction, NaN as a method of a group
-least_of_nothing : reduction_result Min Double (start (fold_of Min Double)) ≡ Err NoRows
+least_of_nothing : reduction_result Min Double (start (reduction_fold Min Double)) ≡ Err NoRows
 least_of_nothing = refl
 
 least_of_a_group : method_result method.Min Double (start (method_fold method.Min Double)) ≡ Ok nan

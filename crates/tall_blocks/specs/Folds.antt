@@ -17,7 +17,7 @@ use Rattle.tall_value.specs.CellOperators.{to_double}
 use Rattle.tall_value.specs.Classes.{least, greatest}
 use Rattle.tall_value.specs.Filters.{is_true}
 use Rattle.tall_value.specs.Groups.{or_nan}
-use Rattle.tall_value.specs.Reductions.{or_fault, or_no_rows, present, total, lesser, greater, folded, is_nonzero}
+use Rattle.tall_value.specs.Reductions.{or_fault, or_no_rows, every_cell, total, lesser, greater, folded, is_nonzero}
 
 -- ---- folds whose parts join
 
@@ -81,11 +81,6 @@ abbrev pub more : (g : Fold) → Kept g → List Seen → Kept g
 more (by_parts p) s cs = joined p s (value_of p cs)
 more (class_sum k) s cs = clamped_sum (least k) (greatest k) s (filter_map amount cs)
 
--- the cells that a fold looks at
-abbrev pub used : (passes_nan : Bool) → List Seen → List Seen
-used true cs = present cs
-used false cs = cs
-
 -- ---- the part of a block, made without what is kept so far
 
 -- of a sum in a class what the block's cells make of the sum so far
@@ -109,19 +104,16 @@ native_fold Logical = by_parts exact_sum
 native_fold Double = by_parts exact_sum
 native_fold Text = by_parts exact_sum
 
-abbrev pub every_cell : Seen → Bool
-every_cell c = true
-
-abbrev pub fold_of : Reduction → Kind → Fold
-fold_of (reduction.Sum true omit) a = native_fold a
-fold_of (reduction.Sum false omit) a = by_parts exact_sum
-fold_of reduction.Min a = by_parts least_cell
-fold_of reduction.Max a = by_parts greatest_cell
-fold_of reduction.Any a = by_parts some_true
-fold_of reduction.All a = by_parts all_true
-fold_of reduction.Nnz a = by_parts (number_of is_nonzero)
-fold_of reduction.Numel a = by_parts (number_of every_cell)
-fold_of reduction.Height a = by_parts (number_of every_cell)
+abbrev pub reduction_fold : Reduction → Kind → Fold
+reduction_fold (reduction.Sum true omit) a = native_fold a
+reduction_fold (reduction.Sum false omit) a = by_parts exact_sum
+reduction_fold reduction.Min a = by_parts least_cell
+reduction_fold reduction.Max a = by_parts greatest_cell
+reduction_fold reduction.Any a = by_parts some_true
+reduction_fold reduction.All a = by_parts all_true
+reduction_fold reduction.Nnz a = by_parts (number_of is_nonzero)
+reduction_fold reduction.Numel a = by_parts (number_of every_cell)
+reduction_fold reduction.Height a = by_parts (number_of every_cell)
 
 -- it passes NaN over
 abbrev pub omits : Reduction → Bool
@@ -142,7 +134,7 @@ native_result Text s = total_result s
 abbrev pub number_result : ℕ → Result Seen FaultKind
 number_result n = Ok (double (Some (pos n)))
 
-abbrev pub reduction_result : (r : Reduction) (a : Kind) → Kept (fold_of r a) → Result Seen FaultKind
+abbrev pub reduction_result : (r : Reduction) (a : Kind) → Kept (reduction_fold r a) → Result Seen FaultKind
 reduction_result (reduction.Sum true omit) a s = native_result a s
 reduction_result (reduction.Sum false omit) a s = total_result s
 reduction_result reduction.Min a s = or_no_rows s

@@ -6,7 +6,8 @@ use Rattle.tall_value.specs.Distinct.{distinct}
 use Rattle.tall_value.specs.Ends.{first_rows, last_rows}
 use Rattle.tall_semantics.specs.Outcomes.{Outcome, rows_in, cells_in}
 use Rattle.tall_blocks.specs.Carries.{Rows}
-use Rattle.tall_blocks.specs.Folds.{Fold, Kept, more, used}
+use Rattle.tall_blocks.specs.Folds.{Fold, Kept, more}
+use Rattle.tall_value.specs.Reductions.{used}
 use Rattle.tall_blocks.specs.GroupsOver.{Groups, groups_more}
 
 -- the values at i and j have equally many rows in each block

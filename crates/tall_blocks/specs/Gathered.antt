@@ -19,14 +19,15 @@ use Rattle.tall_semantics.specs.Faults.{At}
 use Rattle.tall_semantics.specs.Outcomes.{Outcome, rows, rows_in, cells_in, alone, part_of_group}
 use Rattle.tall_semantics.specs.Talls.{Tall}
 use Rattle.tall_blocks.specs.Carries.{Rows}
-use Rattle.tall_blocks.specs.Folds.{Kept, Part, start, more, part_of, with_part, used, by_parts, number_of, every_cell, fold_of, omits, reduction_result, method_fold, method_omits, method_result}
+use Rattle.tall_blocks.specs.Folds.{Kept, Part, start, more, part_of, with_part, by_parts, number_of, reduction_fold, omits, reduction_result, method_fold, method_omits, method_result}
+use Rattle.tall_value.specs.Reductions.{used, every_cell}
 use Rattle.tall_blocks.specs.GroupsOver.{GroupParts, Groups, group_parts, groups_more, groups_with, keys_of}
 
 -- ---- by the operation, over an operand of a kind, or for a group over data of a kind
 
 -- of a group with the number of its rows
 abbrev pub Gathered : Op → Kind → Type 0
-Gathered (reduce r) a = Kept (fold_of r a)
+Gathered (reduce r) a = Kept (reduction_fold r a)
 Gathered (head k) a = Rows
 Gathered (tail k) a = Rows
 Gathered operations.distinct a = List Seen
@@ -35,7 +36,7 @@ Gathered op a = Unit {0}
 
 -- before the first block
 abbrev pub gathered_start : (op : Op) (a : Kind) → Gathered op a
-gathered_start (reduce r) a = start (fold_of r a)
+gathered_start (reduce r) a = start (reduction_fold r a)
 gathered_start (head k) a = []
 gathered_start (tail k) a = []
 gathered_start operations.distinct a = []
@@ -48,7 +49,7 @@ gathered_start (operations.scan s) a = record {}
 
 -- with a block more, over which the operand is x; of a group x is the key and y the data
 abbrev pub gathered_more : (op : Op) (a : Kind) → Gathered op a → (x y : Outcome) → Gathered op a
-gathered_more (reduce r) a s x y = more (fold_of r a) s (used (omits r) (cells_in x))
+gathered_more (reduce r) a s x y = more (reduction_fold r a) s (used (omits r) (cells_in x))
 gathered_more (head k) a s x y = first_rows k (s ++ rows_in x)
 gathered_more (tail k) a s x y = last_rows k (s ++ rows_in x)
 gathered_more operations.distinct a s x y = distinct (s ++ cells_in x)
@@ -62,7 +63,7 @@ gathered_more (operations.scan r) a s x y = s
 -- ---- the part of a block, made without what is kept so far
 
 abbrev pub BlockPart : Op → Kind → Type 0
-BlockPart (reduce r) a = Part (fold_of r a)
+BlockPart (reduce r) a = Part (reduction_fold r a)
 BlockPart (head k) a = Rows
 BlockPart (tail k) a = Rows
 BlockPart operations.distinct a = List Seen
@@ -70,7 +71,7 @@ BlockPart (group m part) a = GroupParts (by_parts (number_of every_cell)) × Gro
 BlockPart op a = Unit {0}
 
 abbrev pub block_part : (op : Op) (a : Kind) → (x y : Outcome) → BlockPart op a
-block_part (reduce r) a x y = part_of (fold_of r a) (used (omits r) (cells_in x))
+block_part (reduce r) a x y = part_of (reduction_fold r a) (used (omits r) (cells_in x))
 block_part (head k) a x y = first_rows k (rows_in x)
 block_part (tail k) a x y = last_rows k (rows_in x)
 block_part operations.distinct a x y = distinct (cells_in x)
@@ -82,7 +83,7 @@ block_part operations.filter a x y = record {}
 block_part (operations.scan s) a x y = record {}
 
 abbrev pub gathered_with : (op : Op) (a : Kind) → Gathered op a → BlockPart op a → Gathered op a
-gathered_with (reduce r) a s t = with_part (fold_of r a) s t
+gathered_with (reduce r) a s t = with_part (reduction_fold r a) s t
 gathered_with (head k) a s t = first_rows k (s ++ t)
 gathered_with (tail k) a s t = last_rows k (s ++ t)
 gathered_with operations.distinct a s t = distinct (s ++ t)

@@ -3,7 +3,8 @@
 use Rattle.std.specs.Prelude.{Bool, if◌then◌else◌, List, [], ◌∷◌, ◌++◌, map}
 use Rattle.tall_value.specs.Cells.{Seen}
 use Rattle.tall_value.specs.Groups.{group_keys, group_data, is_of_group}
-use Rattle.tall_blocks.specs.Folds.{PartFold, Fold, by_parts, Kept, Part, start, more, part_of, with_part, joined, used}
+use Rattle.tall_blocks.specs.Folds.{PartFold, Fold, by_parts, Kept, Part, start, more, part_of, with_part, joined}
+use Rattle.tall_value.specs.Reductions.{used}
 
 abbrev pub Groups : Fold → Type 0
 Groups g = List (Seen × Kept g)

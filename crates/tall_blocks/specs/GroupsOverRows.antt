@@ -4,7 +4,8 @@ use Rattle.std.specs.Prelude.{◌≡◌, refl, ℤ, pos, false, Bool, List, [], 
 use Rattle.tall_value.specs.declared.class.IntKind.TheVariants.{Int8}
 use Rattle.tall_value.specs.Cells.{Seen, whole}
 use Rattle.tall_semantics.specs.Samples.{number, nan}
-use Rattle.tall_blocks.specs.Folds.{exact_sum, number_of, every_cell, by_parts, class_sum}
+use Rattle.tall_blocks.specs.Folds.{exact_sum, number_of, by_parts, class_sum}
+use Rattle.tall_value.specs.Reductions.{every_cell}
 use Rattle.tall_blocks.specs.GroupsOver.{groups_of, at_key, group_parts, keys_of, groups_more, groups_joined, groups_with}
 
 abbrev keys : List Seen

@@ -8,7 +8,7 @@ use Rattle.tall_value.specs.Elementwise.{binary_rows}
 use Rattle.tall_value.specs.Filters.{kept}
 use Rattle.tall_semantics.specs.Samples.{number}
 use Rattle.tall_blocks.specs.Carries.{Rows}
-use Rattle.tall_blocks.specs.RowPlaces.{number_at, renumbered, with_numbers, kept_place}
+use Rattle.tall_blocks.specs.RowPlaces.{row_number_at, renumbered, with_numbers, kept_place}
 
 abbrev some_rows : Rows
 some_rows = (3, number (pos 6)) ∷ (4, number (pos 1)) ∷ (7, number (pos 5)) ∷ []
@@ -19,7 +19,7 @@ divisors = (3, number (pos 2)) ∷ (4, number (pos 1)) ∷ (7, number (pos 2)) �
 abbrev mask : List Seen
 mask = logical false ∷ logical true ∷ logical true ∷ []
 
-numbers_of_places : number_at some_rows 2 ≡ 7
+numbers_of_places : row_number_at some_rows 2 ≡ 7
 numbers_of_places = refl
 
 other_cells : renumbered some_rows (numbered 0 (number (pos 1) ∷ number (pos 2) ∷ number (pos 3) ∷ [])) ≡ (3, number (pos 1)) ∷ (4, number (pos 2)) ∷ (7, number (pos 3)) ∷ []
@@ -36,5 +36,5 @@ fault_at_its_row = refl
 place_of_kept : kept_place mask 1 ≡ 2
 place_of_kept = refl
 
-number_of_kept : number_at (kept some_rows mask) 1 ≡ 7
+number_of_kept : row_number_at (kept some_rows mask) 1 ≡ 7
 number_of_kept = refl

@@ -6,8 +6,8 @@ use Rattle.tall_value.specs.Filters.{is_true}
 use Rattle.tall_blocks.specs.Carries.{Rows, RowsOrFault}
 
 -- the number of the row at a place from 0
-abbrev pub number_at : Rows → (place : ℕ) → ℕ
-number_at rs place = get_or (map (λ (r : ℕ × Seen). r.0) rs) place 0
+abbrev pub row_number_at : Rows → (place : ℕ) → ℕ
+row_number_at rs place = get_or (map (λ (r : ℕ × Seen). r.0) rs) place 0
 
 -- cells with the numbers of other rows, one for one
 abbrev pub renumbered : Rows → Rows → Rows
@@ -18,7 +18,7 @@ renumbered (r ∷ rs) (o ∷ others) = (r.0, o.1) ∷ renumbered rs others
 -- what was counted from 0, with the numbers of the rows
 abbrev pub with_numbers : Rows → RowsOrFault → RowsOrFault
 with_numbers rs (Ok others) = Ok (renumbered rs others)
-with_numbers rs (Err e) = Err (number_at rs e.0, e.1)
+with_numbers rs (Err e) = Err (row_number_at rs e.0, e.1)
 
 abbrev pub next_place : Bool → ℕ → (ℕ → ℕ) → ℕ
 next_place true zero rest = 0

@@ -8,7 +8,7 @@ use Rattle.tall_value.specs.declared.functions.Scan.TheVariants.{CumSum, CumMin,
 use Rattle.tall_value.specs.Cells.{Seen, whole}
 use Rattle.tall_value.specs.Classes.{least, greatest}
 use Rattle.tall_value.specs.Groups.{or_nan}
-use Rattle.tall_semantics.specs.ScanCarries.{or_cell}
+use Rattle.tall_value.specs.Reductions.{or_cell}
 use Rattle.tall_blocks.specs.Folds.{Fold, by_parts, class_sum, exact_sum, least_cell, greatest_cell, Kept, total_result}
 
 abbrev pub scan_fold : Scan → Kind → Fold

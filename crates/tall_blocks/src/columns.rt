@@ -4,7 +4,7 @@ ghost use Rattle.tall_value.specs.declared.class.Kind.{Kind};
 ghost use Rattle.tall_value.specs.declared.functions.Reduction.{Reduction};
 ghost use Rattle.tall_value.specs.Distinct.{distinct};
 ghost use Rattle.tall_value.specs.Ends.{first_rows, last_rows};
-ghost use Rattle.tall_value.specs.Reductions.{reduced};
+ghost use Rattle.tall_value.specs.Reductions.{reduced, used};
 ghost use Rattle.tall_semantics.specs.Chains.{needs_all_rows};
 ghost use Rattle.tall_semantics.specs.Operations.{Op, operation};
 ghost use Rattle.tall_semantics.specs.Plans.{is_scan};
@@ -12,7 +12,7 @@ ghost use Rattle.tall_semantics.specs.Outcomes.{Outcome, cells_in, rows_in};
 ghost use Rattle.tall_semantics.specs.Talls.{Columns, Tall};
 ghost use Rattle.tall_semantics.specs.Deferred.{IsAmong, Vertex, fault_in};
 ghost use Rattle.tall_blocks.specs.Blocks.{Block};
-ghost use Rattle.tall_blocks.specs.Folds.{Fold, Kept, fold_of as fold_of_reduction, more, omits, part_of, reduction_result, start, used, with_part};
+ghost use Rattle.tall_blocks.specs.Folds.{Fold, Kept, reduction_fold, more, omits, part_of, reduction_result, start, with_part};
 ghost use Rattle.tall_blocks.specs.FoldsOfBlocks.{distinct_of_blocks, first_of_blocks, groups_of_blocks, kept_of_blocks, last_of_blocks};
 ghost use Rattle.tall_blocks.specs.Gathered.{Gathered, block_part, end_outcome, gathered_from, gathered_more, gathered_with};
 ghost use Rattle.tall_blocks.specs.GroupsOver.{groups_of};
@@ -29,7 +29,7 @@ ghost use Rattle.tall_blocks.specs.ValuesOver.{block_outcomes, no_cells};
 pub fn functions_of_columns_go_on_block_by_block()
     ensures reductions { (columns : Columns) (of_stores : ℕ → List ℕ) (vs : List Vertex) (f : ℕ → Tall) (store : ℕ) (cut : ℕ → Bool) (bs : List Block) → IsBlockwise columns of_stores vs f store cut bs
         → (i : ℕ) (v : Vertex) → slice_get vs i ≡ Some v → cut i ≡ true → fault_in f i ≡ None
-        → (r : Reduction) (a : Kind) → reduced r a (cells_in (f i).outcome) ≡ reduction_result r a (kept_of_blocks (fold_of_reduction r a) (omits r) (start (fold_of_reduction r a)) (block_outcomes vs f cut no_cells bs) i) }
+        → (r : Reduction) (a : Kind) → reduced r a (cells_in (f i).outcome) ≡ reduction_result r a (kept_of_blocks (reduction_fold r a) (omits r) (start (reduction_fold r a)) (block_outcomes vs f cut no_cells bs) i) }
     ensures first { (columns : Columns) (of_stores : ℕ → List ℕ) (vs : List Vertex) (f : ℕ → Tall) (store : ℕ) (cut : ℕ → Bool) (bs : List Block) → IsBlockwise columns of_stores vs f store cut bs
         → (i : ℕ) (v : Vertex) → slice_get vs i ≡ Some v → cut i ≡ true → fault_in f i ≡ None
         → (k : ℕ) → first_rows k (rows_in (f i).outcome) ≡ first_of_blocks k [] (block_outcomes vs f cut no_cells bs) i }

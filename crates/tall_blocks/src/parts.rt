@@ -12,10 +12,10 @@ ghost use Rattle.tall_value.specs.Cells.{Seen, double};
 ghost use Rattle.tall_value.specs.Distinct.{distinct, distinct_rows};
 ghost use Rattle.tall_value.specs.Ends.{first_rows, last_rows};
 ghost use Rattle.tall_value.specs.Groups.{all_values, group_counts, group_keys, group_value, group_values};
-ghost use Rattle.tall_value.specs.Reductions.{reduced};
+ghost use Rattle.tall_value.specs.Reductions.{reduced, used, every_cell};
 ghost use Rattle.tall_blocks.specs.Carries.{Rows, scanned_behind};
-ghost use Rattle.tall_blocks.specs.Folds.{Fold, Kept, PartFold, Value, by_parts, every_cell, fold_of, joined, method_fold, method_omits, method_result, more, number_of, omits, reduction_result, start, used, value_of};
-ghost use Rattle.tall_blocks.specs.RowPlaces.{kept_place, number_at, renumbered, with_numbers};
+ghost use Rattle.tall_blocks.specs.Folds.{Fold, Kept, PartFold, Value, by_parts, reduction_fold, joined, method_fold, method_omits, method_result, more, number_of, omits, reduction_result, start, value_of};
+ghost use Rattle.tall_blocks.specs.RowPlaces.{kept_place, row_number_at, renumbered, with_numbers};
 ghost use Rattle.tall_blocks.specs.GroupsOver.{groups_joined, groups_more, groups_of, keys_of};
 
 /// Over the rows of a value operators, scans and filters give what they give over its cells, counted from 0, with the
@@ -26,18 +26,18 @@ pub fn places_and_numbers_of_rows_agree()
     ensures scans { (s : Scan) (a : Kind) (before : List Seen) (rs : Rows) → scanned_behind s a before rs ≡ with_numbers rs (scanned_behind s a before (numbered 0 (cells rs))) }
     ensures same_cells { (rs others : Rows) → length others ≡ length rs → cells (renumbered rs others) ≡ cells others }
     ensures kept_cells { (rs : Rows) (mask : List Seen) → cells (kept rs mask) ≡ kept (cells rs) mask }
-    ensures kept_numbers { (rs : Rows) (mask : List Seen) (k : ℕ) → k < length (kept rs mask) → number_at (kept rs mask) k ≡ number_at rs (kept_place mask k) }
+    ensures kept_numbers { (rs : Rows) (mask : List Seen) (k : ℕ) → k < length (kept rs mask) → row_number_at (kept rs mask) k ≡ row_number_at rs (kept_place mask k) }
 {}
 
 /// What a reduction and a method of groups give is told by what is kept of the cells; with further cells it goes on from
 /// there. What is kept of two parts joins, but for the sum in an integer class; joining is associative, and what is kept of
 /// no cells changes nothing on either side.
 pub fn reductions_go_on_from_what_is_kept()
-    ensures reductions { (r : Reduction) (a : Kind) (cs : List Seen) → reduced r a cs ≡ reduction_result r a (more (fold_of r a) (start (fold_of r a)) (used (omits r) cs)) }
+    ensures reductions { (r : Reduction) (a : Kind) (cs : List Seen) → reduced r a cs ≡ reduction_result r a (more (reduction_fold r a) (start (reduction_fold r a)) (used (omits r) cs)) }
     ensures methods { (m : Method) (a : Kind) (cs : List Seen) → group_value m a cs ≡ method_result m a (more (method_fold m a) (start (method_fold m a)) (used (method_omits m) cs)) }
     ensures goes_on { (g : Fold) (s : Kept g) (cs ds : List Seen) → more g s (cs ++ ds) ≡ more g (more g s cs) ds }
     ensures used { (passes_nan : Bool) (cs ds : List Seen) → used passes_nan (cs ++ ds) ≡ used passes_nan cs ++ used passes_nan ds }
-    ensures whole { (r : Reduction) (a : Kind) (cs ds : List Seen) → reduced r a (cs ++ ds) ≡ reduction_result r a (more (fold_of r a) (more (fold_of r a) (start (fold_of r a)) (used (omits r) cs)) (used (omits r) ds)) }
+    ensures whole { (r : Reduction) (a : Kind) (cs ds : List Seen) → reduced r a (cs ++ ds) ≡ reduction_result r a (more (reduction_fold r a) (more (reduction_fold r a) (start (reduction_fold r a)) (used (omits r) cs)) (used (omits r) ds)) }
     ensures joins { (p : PartFold) (cs ds : List Seen) → value_of p (cs ++ ds) ≡ joined p (value_of p cs) (value_of p ds) }
     ensures associative { (p : PartFold) (s t u : Value p) → joined p s (joined p t u) ≡ joined p (joined p s t) u }
     ensures none_before { (p : PartFold) (s : Value p) → joined p (value_of p []) s ≡ s }

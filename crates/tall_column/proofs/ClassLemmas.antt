@@ -24,21 +24,9 @@ use Rattle.tall_value.specs.Cells.{Seen, whole, logical, double, text, amount, s
 use Rattle.tall_value.specs.ClassTables.{sign_kind, of_number, unary_kind, unary_class, class_result, beside_integer, with_integer, arithmetic_kind, bits_beside, bits_kind, texts_kind, both_numbers, comparison_kind, binary_kind, binary_class}
 use Rattle.tall_value.specs.CellOperators.{double_cell, signed, truth, truth_cell, to_double, unary_cell, as_double, of_doubles, arithmetic, bits, joined, binary_cell}
 use Rattle.tall_value.specs.Elementwise.{beside}
+use Rattle.tall_value.proofs.KindLaws.{kind_again}
 use Rattle.tall_dense.specs.Columns.{class_of_cell}
 use Rattle.tall_column.specs.Mapped.{scalar_class}
-
-kind_back : (k : Kind) → kind_of (class_of k) ≡ k
-kind_back (Integer Int8) = refl
-kind_back (Integer Int16) = refl
-kind_back (Integer Int32) = refl
-kind_back (Integer Int64) = refl
-kind_back (Integer Uint8) = refl
-kind_back (Integer Uint16) = refl
-kind_back (Integer Uint32) = refl
-kind_back (Integer Uint64) = refl
-kind_back Logical = refl
-kind_back Double = refl
-kind_back Text = refl
 
 of_double : (r : Result _ WholeFault) (d : Seen) → double_cell r ≡ Ok d → seen_kind d ≡ Double
 of_double (Ok n) d h = cc
@@ -202,7 +190,7 @@ pub class_of_one : (op : Unary) (a class : Class) (c d : Seen) → unary_class o
     → class_of_cell d ≡ class
 class_of_one op a class c d h is e =
     let k = classed (unary_kind op (kind_of a)) class h in
-    let same : kind_of a ≡ seen_kind c = ap kind_of (sym is) ∙ kind_back (seen_kind c) in
+    let same : kind_of a ≡ seen_kind c = ap kind_of (sym is) ∙ kind_again (seen_kind c) in
     sym (k.2 ∙ ap class_of (kind_of_one op c d k.0 (ap (λ j. unary_kind op j) (sym same) ∙ k.1) e))
 
 -- the cell of two operands has the class of the table, whichever of them is a scalar
@@ -210,8 +198,8 @@ pub class_of_two : (op : Binary) (a b class : Class) (s t : Bool) (x y d : Seen)
     → binary_cell op x y ≡ Ok d → class_of_cell d ≡ class
 class_of_two op a b class s t x y d h is also e =
     let k = classed (binary_kind op (kind_of a) s (kind_of b) t) class h in
-    let first : kind_of a ≡ seen_kind x = ap kind_of (sym is) ∙ kind_back (seen_kind x) in
-    let second : kind_of b ≡ seen_kind y = ap kind_of (sym also) ∙ kind_back (seen_kind y) in
+    let first : kind_of a ≡ seen_kind x = ap kind_of (sym is) ∙ kind_again (seen_kind x) in
+    let second : kind_of b ≡ seen_kind y = ap kind_of (sym also) ∙ kind_again (seen_kind y) in
     sym (k.2 ∙ ap class_of (kind_of_two op x y d s t k.0
     (ap (λ j. binary_kind op (seen_kind x) s j t) (sym second) ∙ ap (λ j. binary_kind op j s (kind_of b) t) (sym first) ∙ k.1) e))
 

@@ -5,7 +5,6 @@ use Rattle.tall_int.specs.declared.operators.Arith.{Arith}
 use Rattle.tall_int.specs.declared.operators.Arith.TheVariants as arith
 use Rattle.tall_int.specs.Twos.{twos_and, twos_or, twos_xor}
 use Rattle.tall_value.specs.declared.class.IntKind.{IntKind}
-use Rattle.tall_value.specs.declared.class.IntKind.TheVariants.{Int8, Int16, Int32, Int64, Uint8, Uint16, Uint32, Uint64}
 use Rattle.tall_value.specs.declared.faults.CellFault.{CellFault}
 use Rattle.tall_value.specs.declared.operators.Binary.{Binary}
 use Rattle.tall_value.specs.declared.operators.Binary.TheVariants.{Add, Sub, Mul, Div, Modulo, Idivide, BitAnd, BitOr, BitXor, Eq, Ne, Lt, Le, Gt, Ge, StrCmp, And, Or}
@@ -13,8 +12,8 @@ use Rattle.tall_value.specs.Cells.{Seen, whole, logical, double, text, amount, b
 use Rattle.tall_value.specs.CellOperators.{integer_side, or_zero, in_class, converted, arithmetic, double_cell, of_doubles, as_double, bits, compared, comparison, equal, below, above, truth, joined, binary_cell}
 use Rattle.tall_value.specs.Columns.{numbered}
 use Rattle.tall_value.specs.Elementwise.{at_row, each_row, beside}
-use Rattle.std.proofs.lemmas.Bool.{eqb-true}
-use Rattle.tall_value.specs.Classes.{is_same, place, least, greatest}
+use Rattle.tall_value.specs.Classes.{is_same, least, greatest}
+use Rattle.tall_value.proofs.ClassLaws.{same_integers}
 use Rattle.tall_dense.specs.Ranges.{in_range}
 use Rattle.std.proofs.lemmas.Int.{ints}
 use Rattle.tall_dense.proofs.Narrowed.{nearest_inside}
@@ -34,22 +33,6 @@ pub record StandsFor (k : IntKind) (n : ℤ) (scalar : Seen) : Type 0 where
   pub beside : IsBeside k scalar
   pub counts : amount scalar ≡ Some n
 
-abbrev kind_at : ℕ → IntKind
-kind_at n = get_or (Int8 ∷ Int16 ∷ Int32 ∷ Int64 ∷ Uint8 ∷ Uint16 ∷ Uint32 ∷ Uint64 ∷ []) n Int8
-
-kind_back : (k : IntKind) → kind_at (place k) ≡ k
-kind_back Int8 = refl
-kind_back Int16 = refl
-kind_back Int32 = refl
-kind_back Int64 = refl
-kind_back Uint8 = refl
-kind_back Uint16 = refl
-kind_back Uint32 = refl
-kind_back Uint64 = refl
-
-same_kind : (j k : IntKind) → is_same j k ≡ true → j ≡ k
-same_kind j k h = sym (kind_back j) ∙ ap kind_at (eqb-true (place j) (place k) h) ∙ kind_back k
-
 some_if : (b : Bool) (o : Option ℤ) (n : ℤ) → (if b then o else None) ≡ Some n → (b ≡ true) × (o ≡ Some n)
 some_if true o n h = (refl, h)
 some_if false o n h = absurd cc
@@ -57,7 +40,7 @@ some_if false o n h = absurd cc
 pub stands : (k : IntKind) (n : ℤ) (s : Seen) → number_beside k s ≡ Some n → StandsFor k n s
 stands k n (whole j v) h =
     let both = some_if (is_same j k) (Some v) n h in
-    record { beside = same_kind j k both.0; counts = both.1 }
+    record { beside = same_integers j k both.0; counts = both.1 }
 stands k n (logical b) h = record { beside = tt; counts = h }
 stands k n (double d) h = record { beside = tt; counts = h }
 stands k n (text t) h = absurd (let no : ◌≡◌ {A = Option ℤ} None (Some n) = h in cc)

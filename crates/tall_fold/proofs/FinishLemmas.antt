@@ -23,12 +23,12 @@ use Rattle.tall_value.specs.Columns.{HasKind}
 use Rattle.tall_value.specs.Filters.{is_true}
 use Rattle.tall_value.specs.FunctionClasses.{reduction_kind}
 use Rattle.tall_value.specs.Reductions as R
-use Rattle.tall_value.specs.Reductions.{present, lesser, greater, folded, native_total, or_no_rows, reduced}
+use Rattle.tall_value.specs.Reductions.{present, lesser, greater, folded, native_total, or_no_rows, reduced, used, every_cell}
 use Rattle.tall_clamp.specs.Clamps.{apply, Sums}
 use Rattle.tall_clamp.specs.Outcomes.{picked}
 use Rattle.tall_clamp.specs.SumLaws.{sum_stays}
 use Rattle.tall_clamp.specs.declared.bounds.Bounds.{Bounds}
-use Rattle.tall_fold.specs.Forms.{Form, exact_total, clamp_function, least_number, greatest_number, some_true, each_true, how_many, counted, every_cell, form_of, omits, used}
+use Rattle.tall_fold.specs.Forms.{Form, exact_total, clamp_function, least_number, greatest_number, some_true, each_true, how_many, counted, form_of, omits}
 use Rattle.tall_fold.specs.Summaries.{IsNumber, low_of, high_of, number_cell}
 use Rattle.tall_fold.proofs.KeptLemmas.{count_all}
 use Rattle.tall_fold.proofs.JoinLemmas.{ends_ordered}

@@ -16,25 +16,22 @@ use Rattle.tall_value.specs.declared.functions.Reduction.{Reduction}
 use Rattle.tall_value.specs.Cells.{Seen, amount, is_nan}
 use Rattle.tall_value.specs.Classes.{greatest, least}
 use Rattle.tall_value.specs.Filters.{is_true}
-use Rattle.tall_value.specs.Reductions.{is_present, total}
+use Rattle.tall_value.specs.Reductions.{is_present, total, used}
 use Rattle.tall_clamp.specs.Clamps.{after, Sums}
 use Rattle.tall_clamp.specs.ClampLaws.{apply-after}
 use Rattle.tall_clamp.specs.Folds.{added, of_both}
 use Rattle.tall_clamp.specs.FoldLaws.{int_min-assoc, int_max-assoc}
 use Rattle.tall_clamp.specs.Outcomes.{picked}
+use Rattle.tall_value.proofs.SumLaws.{total_append}
 use Rattle.tall_clamp.specs.declared.bounds.Bounds.{Bounds}
 use Rattle.tall_clamp.proofs.SumLemmas.{more_rows}
 use Rattle.tall_fold.specs.PickLaws.{min_kept, max_kept}
-use Rattle.tall_fold.specs.Forms.{omits, used, total_unless_nan, counted}
+use Rattle.tall_fold.specs.Forms.{omits, total_unless_nan, counted}
 use Rattle.tall_fold.specs.Summaries.{low_of, high_of, IsNumber}
 
 pub used-append : (b : Bool) (cs ds : List Seen) → used b (cs ++ ds) ≡ used b cs ++ used b ds
 used-append true cs ds = filter-append is_present cs ds
 used-append false cs ds = refl
-
-pub total-append : (xs ys : List ℤ) → total (xs ++ ys) ≡ total xs +ℤ total ys
-total-append [] ys = omega (arith, ints)
-total-append (x ∷ xs) ys = (let h = total-append xs ys in omega (arith, ints, h))
 
 -- ---- totals
 
@@ -47,7 +44,7 @@ pub total_unless_nan-append : (cs ds : List Seen) → added (total_unless_nan cs
 total_unless_nan-append cs ds =
     added_if (list_any is_nan cs) (list_any is_nan ds) (total (filter_map amount cs)) (total (filter_map amount ds))
     ∙ ap (λ (n : ℤ). if list_any is_nan cs || list_any is_nan ds then None else Some n)
-    (sym (ap total (filter_map-append amount cs ds) ∙ total-append (filter_map amount cs) (filter_map amount ds)))
+    (sym (ap total (filter_map-append amount cs ds) ∙ total_append (filter_map amount cs) (filter_map amount ds)))
     ∙ ap (λ (b : Bool). if b then None else Some (total (filter_map amount (cs ++ ds)))) (sym (list_any-append is_nan cs ds))
 
 pub totals_joined : (op : Reduction) (cs ds : List Seen) (s t : Option ℤ) → s ≡ total_unless_nan (used (omits op) cs) → t ≡ total_unless_nan (used (omits op) ds)

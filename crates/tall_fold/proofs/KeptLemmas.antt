@@ -16,14 +16,14 @@ use Rattle.tall_value.specs.Cells.{Seen, whole, logical, double, amount, is_nan}
 use Rattle.tall_value.specs.Classes.{greatest, least}
 use Rattle.tall_value.specs.Columns.{HasKind}
 use Rattle.tall_value.specs.Filters.{is_true}
-use Rattle.tall_value.specs.Reductions.{present, is_nonzero, total}
+use Rattle.tall_value.specs.Reductions.{present, is_nonzero, total, used, every_cell}
 use Rattle.tall_clamp.specs.Clamps.{after, apply, row_clamp, Sums}
 use Rattle.tall_clamp.specs.Folds.{added, joined_by, no_clamp, of_rows, one_row}
 use Rattle.tall_clamp.specs.FoldLaws.{held, any_is, all_is}
 use Rattle.tall_clamp.specs.Outcomes.{picked, total as left_total}
 use Rattle.tall_clamp.specs.SumLaws.{rows_sum}
 use Rattle.tall_clamp.specs.declared.bounds.Bounds.{Bounds}
-use Rattle.tall_fold.specs.Forms.{exact_total, form_of, used, total_unless_nan, every_cell}
+use Rattle.tall_fold.specs.Forms.{exact_total, form_of, total_unless_nan}
 use Rattle.tall_fold.specs.Summaries.{IsKeptOf, IsNumber}
 use Rattle.tall_fold.specs.declared.kept.Kept.TheVariants as kept
 

@@ -28,14 +28,16 @@ use Rattle.tall_dense.specs.Columns.{SeenColumn}
 use Rattle.tall_dense.specs.Rows.{Answers}
 use Rattle.tall_dense.specs.declared.faults.OpFault.{OpFault}
 use Rattle.tall_dense.specs.declared.faults.OpFault.TheVariants.{At, Memory}
+use Rattle.tall_value.proofs.SumLaws.{clamped_append}
 use Rattle.tall_clamp.specs.Clamps.{apply, Sums}
 use Rattle.tall_clamp.specs.Folds.{of_both}
 use Rattle.tall_clamp.specs.FoldLaws.{int_max-assoc, int_min-assoc}
 use Rattle.tall_clamp.specs.Outcomes.{picked}
 use Rattle.tall_clamp.specs.declared.bounds.Bounds.{Bounds}
-use Rattle.tall_fold.specs.Forms.{Form, exact_total, clamp_function, least_number, greatest_number, some_true, each_true, how_many, form_of, omits, used, total_unless_nan}
+use Rattle.tall_fold.specs.Forms.{Form, exact_total, clamp_function, least_number, greatest_number, some_true, each_true, how_many, form_of, omits, total_unless_nan}
+use Rattle.tall_value.specs.Reductions.{used, or_cell}
 use Rattle.tall_fold.specs.Summaries.{low_of, high_of, number_cell}
-use Rattle.tall_fold.specs.Carries.{InClass, IsCarry, IsFoldOf, IsMemory, IsScanFrom, next_best, next_sum, no_least, no_greatest, or_cell, result_kind, running, scan_cell, scan_fold, scan_rows, SeenCarry}
+use Rattle.tall_fold.specs.Carries.{InClass, IsCarry, IsFoldOf, IsMemory, IsScanFrom, next_best, next_sum, no_least, no_greatest, result_kind, running, scan_cell, scan_fold, scan_rows, SeenCarry}
 use Rattle.tall_fold.specs.declared.kept.Kept.{Kept}
 use Rattle.tall_fold.specs.declared.kept.Kept.TheVariants.{Total}
 use Rattle.tall_fold.proofs.FinishLemmas.{sum_is_number, sum_of_clamp}
@@ -101,15 +103,11 @@ module _ {V : Type 0} (op : Scan) (a : Kind) (next : Seen → Seen → Seen) (f 
   scanned_if (Ok t) items start rows p q = λ cs h. scan_is_running cs (f start) 0 rows q h ∙ ap (λ (l : List Seen). Ok (numbered 0 l)) (sym p)
   scanned_if (Err e) items start rows p q = tt
 
-pub clamped-append : (low high sum : ℤ) (xs ys : List ℤ) → clamped_sum low high sum (xs ++ ys) ≡ clamped_sum low high (clamped_sum low high sum xs) ys
-clamped-append low high sum [] ys = refl
-clamped-append low high sum (x ∷ xs) ys = clamped-append low high (nearest low high (sum +ℤ x)) xs ys
-
 sum_step : (k : IntKind) (cs : List Seen) (c : Seen) (n : ℤ) → scan_cell CumSum (Integer k) cs ≡ Ok c → scan_cell CumSum (Integer k) (cs ++ whole k n ∷ []) ≡ Ok (next_sum c (whole k n))
 sum_step k cs c n h =
     let sum = clamped_sum (least k) (greatest k) (pos 0) (filter_map amount cs) in
     ap (λ (l : List ℤ). Ok (whole k (clamped_sum (least k) (greatest k) (pos 0) l))) (filter_map-append amount cs (whole k n ∷ []))
-    ∙ ap (λ (m : ℤ). Ok (whole k m)) (clamped-append (least k) (greatest k) (pos 0) (filter_map amount cs) (n ∷ []))
+    ∙ ap (λ (m : ℤ). Ok (whole k m)) (clamped_append (least k) (greatest k) (pos 0) (filter_map amount cs) (n ∷ []))
     ∙ ap (λ (d : Seen). Ok (next_sum d (whole k n))) (same_ok (whole k sum) c h)
 
 -- what a first number makes of the other end of the class

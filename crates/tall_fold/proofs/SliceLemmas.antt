@@ -10,7 +10,8 @@ use Rattle.tall_value.specs.declared.class.Kind.TheVariants.{Double}
 use Rattle.tall_clamp.specs.Folds.{added, of_both}
 use Rattle.tall_clamp.specs.Outcomes.{picked}
 use Rattle.tall_clamp.proofs.SumLemmas.{rows_more}
-use Rattle.tall_fold.proofs.JoinLemmas.{picked-append, total-append}
+use Rattle.tall_fold.proofs.JoinLemmas.{picked-append}
+use Rattle.tall_value.proofs.SumLaws.{total_append}
 use Rattle.tall_fold.specs.Summaries.{IsNumber}
 
 -- a number of magnitude at most 2^53 is one of the doubles
@@ -44,8 +45,8 @@ number_more pick stays (Some m) None p q = p
 number_more pick stays (Some m) (Some n) p q = stays (negsuc 9007199254740991) (pos 9007199254740992) m n p (small_is_number n q)
 
 with_one : (ns : List ℤ) (v : Option ℤ) → (elim v [ Some n ↦ added (Some (total ns)) (Some n) | None ↦ Some (total ns) ]) ≡ Some (total (ns ++ filter_map (λ d. d) (v ∷ [])))
-with_one ns None = ap Some (let e : total ns ≡ total ns +ℤ pos 0 = omega (arith, ints) in e ∙ sym (total-append ns []))
-with_one ns (Some n) = ap Some (let e : total ns +ℤ n ≡ total ns +ℤ (n +ℤ pos 0) = omega (arith, ints) in e ∙ sym (total-append ns (n ∷ [])))
+with_one ns None = ap Some (let e : total ns ≡ total ns +ℤ pos 0 = omega (arith, ints) in e ∙ sym (total_append ns []))
+with_one ns (Some n) = ap Some (let e : total ns +ℤ n ≡ total ns +ℤ (n +ℤ pos 0) = omega (arith, ints) in e ∙ sym (total_append ns (n ∷ [])))
 
 pub total_with : (ds : List (Option ℤ)) (i : ℕ) (v t next : Option ℤ) → i < length ds → v ≡ get_or ds i v → t ≡ Some (total (filter_map (λ d. d) (take i ds)))
     → next ≡ (elim v [ Some n ↦ added t (Some n) | None ↦ t ]) → next ≡ Some (total (filter_map (λ d. d) (take (i + 1) ds)))

@@ -21,19 +21,19 @@ use Rattle.tall_value.specs.Classes.{greatest, least}
 use Rattle.tall_value.specs.Columns.{RowHasKind, cells}
 use Rattle.tall_value.specs.Elementwise.{at_row, in_front}
 use Rattle.tall_value.specs.FunctionClasses.{scan_kind}
-use Rattle.tall_value.specs.Reductions.{greater, lesser}
+use Rattle.tall_value.specs.Reductions.{greater, lesser, or_cell}
 use Rattle.tall_value.specs.Scans.{added as added_in, bests, better, double_sums, integer_sums, scanned}
 use Rattle.tall_clamp.specs.Folds.{added, of_both}
 use Rattle.tall_clamp.specs.FoldLaws.{int_max-assoc, int_min-assoc}
 use Rattle.tall_clamp.specs.Outcomes.{picked}
-use Rattle.tall_fold.specs.Carries.{followed, no_greatest, no_least, or_cell, result_kind, scan_cell, scan_rows}
+use Rattle.tall_fold.specs.Carries.{followed, no_greatest, no_least, result_kind, scan_cell, scan_rows}
 use Rattle.tall_fold.specs.Forms.{total_unless_nan}
 use Rattle.tall_fold.specs.PickLaws.{double_alone, logical_alone}
 use Rattle.tall_fold.specs.Summaries.{number_cell}
 use Rattle.tall_fold.proofs.FinishLemmas.{greater_is, lesser_is}
 use Rattle.tall_fold.proofs.JoinLemmas.{picked-append}
 use Rattle.tall_fold.proofs.RunningLemmas.{total_here}
-use Rattle.tall_fold.proofs.ScanLemmas.{clamped-append}
+use Rattle.tall_value.proofs.SumLaws.{clamped_append}
 
 abbrev Rows : Type 0
 Rows = List (ℕ × Seen)
@@ -86,7 +86,7 @@ sum_just k s None = refl
 sum_more : (k : IntKind) (before : List Seen) (c : Seen) → sum_of k (before ++ c ∷ []) ≡ added_in k (sum_of k before) (amount c)
 sum_more k before c =
     ap (clamped_sum (least k) (greatest k) (pos 0)) (filter_map-append amount before (c ∷ []) ∙ ap (λ (l : List ℤ). filter_map amount before ++ l) (one_amount c))
-    ∙ clamped-append (least k) (greatest k) (pos 0) (filter_map amount before) (just (amount c))
+    ∙ clamped_append (least k) (greatest k) (pos 0) (filter_map amount before) (just (amount c))
     ∙ sum_just k (sum_of k before) (amount c)
 
 integer_rows : (k : IntKind) (before : List Seen) (rows : Rows) → scan_rows CumSum (Integer k) before rows ≡ Ok (integer_sums k (sum_of k before) rows)

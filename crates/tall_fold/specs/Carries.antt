@@ -19,6 +19,7 @@ use Rattle.tall_value.specs.declared.functions.Scan.TheVariants.{CumSum, CumMin,
 use Rattle.std.specs.Prelude.{true, false}
 use Rattle.tall_value.specs.Cells.{Seen, amount, double, logical, seen, text, whole}
 use Rattle.tall_value.specs.CellOperators.{to_double}
+use Rattle.tall_value.specs.Reductions.{or_cell}
 use Rattle.tall_value.specs.Classes.{greatest, kind_of, least}
 use Rattle.tall_value.specs.Columns.{numbered}
 use Rattle.tall_value.specs.Elementwise.{at_row}
@@ -51,10 +52,6 @@ no_greatest (Integer k) = whole k (least k)
 no_greatest Logical = double None
 no_greatest Double = double None
 no_greatest Text = double None
-
-abbrev pub or_cell : Seen → Option Seen → Seen
-or_cell c (Some d) = d
-or_cell c None = c
 
 -- of a kind of results
 abbrev pub scan_cell : Scan → Kind → List Seen → Result Seen CellFault

@@ -6,7 +6,7 @@ use Rattle.tall_value.specs.declared.class.Kind.TheVariants.{Integer, Logical, D
 use Rattle.tall_value.specs.declared.functions.Reduction.{Reduction}
 use Rattle.tall_value.specs.declared.functions.Reduction.TheVariants.{Sum, Min, Max, Any, All, Nnz, Numel, Height}
 use Rattle.tall_value.specs.Cells.{Seen, amount, is_nan}
-use Rattle.tall_value.specs.Reductions.{present, total, is_nonzero}
+use Rattle.tall_value.specs.Reductions.{every_cell, total, is_nonzero}
 
 -- the exact total; the clamp function of the rows; the least or the greatest number; whether one or each is true; how many
 -- cells pass a test
@@ -47,16 +47,9 @@ omits Nnz = false
 omits Numel = false
 omits Height = false
 
-abbrev pub used : (passes_nan : Bool) → List Seen → List Seen
-used true cs = present cs
-used false cs = cs
-
 -- the exact total; none where a NaN is met
 abbrev pub total_unless_nan : List Seen → Option ℤ
 total_unless_nan cs = if list_any is_nan cs then None else Some (total (filter_map amount cs))
-
-abbrev pub every_cell : Seen → Bool
-every_cell c = true
 
 -- the cells that are counted
 abbrev pub counted : Reduction → Seen → Bool

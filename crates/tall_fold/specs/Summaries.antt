@@ -20,7 +20,8 @@ use Rattle.tall_value.specs.Columns.{HasKind}
 use Rattle.tall_value.specs.Filters.{is_true}
 use Rattle.tall_value.specs.FunctionClasses.{reduction_class}
 use Rattle.tall_dense.specs.Columns.{SeenColumn}
-use Rattle.tall_fold.specs.Forms.{Form, exact_total, clamp_function, least_number, greatest_number, some_true, each_true, how_many, counted, form_of, omits, used, total_unless_nan}
+use Rattle.tall_fold.specs.Forms.{Form, exact_total, clamp_function, least_number, greatest_number, some_true, each_true, how_many, counted, form_of, omits, total_unless_nan}
+use Rattle.tall_value.specs.Reductions.{used}
 use Rattle.tall_fold.specs.declared.kept.Kept.{Kept}
 use Rattle.tall_fold.specs.declared.kept.Kept.TheVariants as kept
 

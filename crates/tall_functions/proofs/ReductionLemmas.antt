@@ -22,7 +22,7 @@ use Rattle.tall_local.specs.Refusals.{Refusal}
 use Rattle.tall_memory.specs.declared.faults.MemoryFault.{MemoryFault}
 use Rattle.tall_memory.specs.declared.values.MemoryValue.{MemoryValue}
 use Rattle.tall_memory.specs.Values.{Gives}
-use Rattle.tall_memory.proofs.ColumnLemmas.{kind_back}
+use Rattle.tall_value.proofs.KindLaws.{kind_again}
 
 -- the first of one row is that row
 pub only_cell : (cells : List Seen) (c d : Seen) (r : Result MemoryValue MemoryFault) → slice_get cells 0 ≡ Some d → cells ≡ c ∷ [] → Gives (Ok (scalar d)) r → Gives (Ok (scalar c)) r
@@ -57,7 +57,7 @@ with_taken (Err e) class answer r accepted given = refused_kinds e class accepte
 of_class : (f : Reduction) (c : Seen) (r : Result MemoryValue MemoryFault)
     → Gives (with_kind (reduction_kind f (kind_of (class_of (seen_kind c)))) (λ k. total_result (reduced f (kind_of (class_of (seen_kind c))) (c ∷ [])))) r
     → Gives (with_kind (reduction_kind f (seen_kind c)) (λ k. total_result (reduced f (seen_kind c) (c ∷ [])))) r
-of_class f c r given = subst (λ (a : Kind). Gives (with_kind (reduction_kind f a) (λ k. total_result (reduced f a (c ∷ [])))) r) (kind_back (seen_kind c)) given
+of_class f c r given = subst (λ (a : Kind). Gives (with_kind (reduction_kind f a) (λ k. total_result (reduced f a (c ∷ [])))) r) (kind_again (seen_kind c)) given
 
 pub as_one_row : (f : Reduction) (c : Seen) (x : SeenColumn) (r : Result MemoryValue MemoryFault) → x ≡ record { class = class_of (seen_kind c); cells = c ∷ [] }
     → Gives (with_kind (reduction_kind f (kind_of x.class)) (λ k. total_result (reduced f (kind_of x.class) x.cells))) r

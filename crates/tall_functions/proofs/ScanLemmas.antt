@@ -30,7 +30,8 @@ use Rattle.tall_fold.specs.Carries.{result_kind, scan_cell, scan_rows}
 use Rattle.tall_fold.proofs.KeptLemmas.{kinds}
 use Rattle.tall_fold.proofs.WholeLemmas.{whole_is}
 use Rattle.tall_memory.specs.Columns.{IsFaultBelow}
-use Rattle.tall_memory.proofs.ColumnLemmas.{kind_back, next_rows}
+use Rattle.tall_memory.proofs.ColumnLemmas.{next_rows}
+use Rattle.tall_value.proofs.KindLaws.{kind_again}
 
 -- ---- cells have the kind of their class
 
@@ -84,7 +85,7 @@ scan_from_one s x class taken are =
 -- ---- the class of the result
 
 inside : (k : Kind) (class : Class) → class_result (Ok k) ≡ Ok class → kind_of class ≡ k
-inside k class h = let e : class_of k ≡ class = cc in ap kind_of (sym e) ∙ kind_back k
+inside k class h = let e : class_of k ≡ class = cc in ap kind_of (sym e) ∙ kind_again k
 
 no_class : {A : Type 0} (e : ClassFault) (class : Class) → class_result (Err e) ≡ Ok class → A
 no_class e class h = absurd cc

@@ -4,7 +4,6 @@
 //! or the refusal. Operands are lent, so no function takes a value away.
 #![tactic(auto)]
 
-mod classes;
 mod distinct;
 mod operations;
 mod reductions;

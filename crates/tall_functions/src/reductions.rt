@@ -13,14 +13,13 @@ ghost use Rattle.tall_local.specs.MemoryFunctions.{count_cell, memory_height, me
 ghost use Rattle.tall_local.specs.MemoryOperators.{with_kind};
 ghost use Rattle.tall_memory.specs.Values.{Gives, ref_seen};
 
-use crate::classes::reduction_class;
 use std::alloc::{AllocError, Global};
 use tall_clamp::FinishFault;
 use tall_column::Column;
 use tall_fold::summarise;
 use tall_int::Whole;
 use tall_memory::{MemoryFault, MemoryRef, MemoryValue, refused_class};
-use tall_value::{Cell, FaultKind, Reduction};
+use tall_value::{Cell, FaultKind, Reduction, reduction_class};
 
 /// Folds take fewer rows than this; no memory holds so many.
 pub(crate) const MOST_ROWS: usize = 1 << 40;

@@ -12,14 +12,13 @@ ghost use Rattle.tall_local.specs.MemoryFunctions.{memory_scan};
 ghost use Rattle.tall_local.specs.MemoryOperators.{column_result, with_kind};
 ghost use Rattle.tall_memory.specs.Values.{Gives, ref_seen};
 
-use crate::classes::scan_class;
 use crate::reductions::MOST_ROWS;
 use std::alloc::Global;
 use tall_column::Column;
 use tall_dense::{OpFault, Values};
 use tall_fold::{Carry, carry, scan};
 use tall_memory::{MemoryFault, MemoryRef, MemoryValue, column_answer, refused_class};
-use tall_value::Scan;
+use tall_value::{Scan, scan_class};
 
 /// The values of a column, of which each cell has the kind of the class.
 fn values_of(x: &Column) -> &Values

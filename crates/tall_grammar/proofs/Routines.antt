@@ -9,7 +9,8 @@ use Rattle.tall_grammar.specs.Lexemes.{Lexeme, sign, word, name_token, is_the_si
 use Rattle.tall_grammar.specs.Trees.{Tree, Step, Steps, no_steps, SeenFunction}
 use Rattle.tall_grammar.specs.Views.{steps_of}
 use Rattle.tall_grammar.specs.Refusals.{step_trees, steps_trees}
-use Rattle.tall_grammar.specs.Grammar.{AreSeparators, first_line, AreSteps, without_steps, IsParameter, named, passed_over, AreFunctions, no_functions, next_function, are_distinct, function_name}
+use Rattle.tall_grammar.specs.Grammar.{AreSeparators, first_line, AreSteps, without_steps, IsParameter, named, passed_over, AreFunctions, no_functions, next_function, function_name}
+use Rattle.tall_value.specs.Names.{are_distinct}
 use Rattle.tall_grammar.specs.Kept.{Flagged, flagged, with_it, and_last}
 use Rattle.tall_grammar.specs.Readers.{input, ◌>>=◌, pure, front_is, is_name, take_as, expect_word, skip_separators}
 use Rattle.tall_grammar.specs.ScriptReader.{on_line, separators, steps_within, parameter_of, parameter, parameters, new_name, routine, function_rest, functions_from}

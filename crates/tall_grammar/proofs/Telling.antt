@@ -6,7 +6,7 @@ use Rattle.tall_grammar.specs.declared.faults.Fault.TheVariants.{Stop, OutOfTurn
 use Rattle.tall_grammar.specs.Lexemes.{Lexeme}
 use Rattle.tall_grammar.specs.Trees.{SeenScript}
 use Rattle.tall_grammar.specs.Grammar.{IsScript}
-use Rattle.tall_grammar.specs.Refusals.{program_trees, too_high, too_deep, GoesOn, StopsAt, EndsEarly, Verdict, read, too_deep_at, syntax_at, Reads, is_too_deep, stops_short, ends_early, is_too_high, is_script}
+use Rattle.tall_grammar.specs.Refusals.{script_trees, too_high, too_deep, GoesOn, StopsAt, EndsEarly, Verdict, read, too_deep_at, syntax_at, Reads, is_too_deep, stops_short, ends_early, is_too_high, is_script}
 use Rattle.tall_grammar.specs.Kept.{Flagged, flagged, flagged_by}
 use Rattle.tall_grammar.specs.Readers.{Input, Outcome, input}
 use Rattle.tall_grammar.specs.ScriptReader.{program}
@@ -21,7 +21,7 @@ told_by o s v q l e = ap of_flag (q ∙ ap (λ o. flagged_by o s) e)
 told_read : (o : Option ℕ) (s : SeenScript) (v : Flagged SeenScript) → v ≡ flagged_by o s → o ≡ None → of_flag v ≡ read s
 told_read o s v q e = ap of_flag (q ∙ ap (λ o. flagged_by o s) e)
 
-script_tells : (last : ℕ) (ts : List Lexeme) (s : SeenScript) (v : Flagged SeenScript) → too_deep ts ≡ None → IsScript ts s → v ≡ flagged (program_trees s) s → Reads last ts (of_flag v)
+script_tells : (last : ℕ) (ts : List Lexeme) (s : SeenScript) (v : Flagged SeenScript) → too_deep ts ≡ None → IsScript ts s → v ≡ flagged (script_trees s) s → Reads last ts (of_flag v)
 script_tells last ts s v deep r q = (elim (too_high s) as (λ o. too_high s ≡ o → Reads last ts (of_flag v)) [
   | None ↦ λ e. subst (λ (a : Verdict). Reads last ts a) (sym (told_read (too_high s) s v q e)) (is_script deep r e)
   | Some l ↦ λ e. subst (λ (a : Verdict). Reads last ts a) (sym (told_by (too_high s) s v q l e)) (is_too_high deep r e)

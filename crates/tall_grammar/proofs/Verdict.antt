@@ -5,7 +5,7 @@ use Rattle.std.specs.List.{flat_map}
 use Rattle.tall_grammar.specs.declared.faults.Fault.TheVariants.{Stop}
 use Rattle.tall_grammar.specs.Lexemes.{Lexeme, is_separator, shows}
 use Rattle.tall_grammar.specs.Trees.{Body, SeenStatement, SeenFunction, SeenScript}
-use Rattle.tall_grammar.specs.Refusals.{body_trees, program_trees, GoesOn, StopsAt, EndsEarly}
+use Rattle.tall_grammar.specs.Refusals.{body_trees, script_trees, GoesOn, StopsAt, EndsEarly}
 use Rattle.tall_grammar.specs.Grammar.{AreSeparators, IsBody, AreStatements, no_statements, next_statement, AreFunctions, IsScript, a_script, a_script_to_the_end}
 use Rattle.tall_grammar.specs.Kept.{Flagged, flagged, with_both, and_last}
 use Rattle.tall_grammar.specs.Readers.{Input, input}
@@ -25,7 +25,7 @@ ScriptRule = Seq SkipRule (λ _. ProgramFrom (Ok []))
 pub record Scripted (ts : List Lexeme) (v : Flagged SeenScript) : Type 0 where
   pub script : SeenScript
   pub holds : IsScript ts script
-  pub told : v ≡ flagged (program_trees script) script
+  pub told : v ≡ flagged (script_trees script) script
 
 -- ---- what the rules have is a script
 
@@ -57,7 +57,7 @@ parts found m ts v n (p_last found1 l m1 n1 ts1 b v1 r q) =
     with_last l m1 n1 [] ts1 [] b (no_statements m1) r (q ∙ ap (λ z. with_both program_of_parts z (Ok [])) (sym (one_entry found1 (entry_of l true b))))
 parts found m all v n (p_next found1 l m1 k1 n1 ts ps us p b v1 r h s x) = add_statement found1 l m1 k1 v1 ts ps us p b r h s (parts (and_last found1 (flagged (body_trees b) (entry_of l (shows p) b))) k1 us v1 n1 x)
 
-whole_value : (bs : List SeenStatement) (fs : List SeenFunction) → with_both program_of_parts (extended entry_trees (Ok []) bs) (extended routine_trees (Ok []) fs) ≡ flagged (program_trees (program_of_parts bs fs)) (program_of_parts bs fs)
+whole_value : (bs : List SeenStatement) (fs : List SeenFunction) → with_both program_of_parts (extended entry_trees (Ok []) bs) (extended routine_trees (Ok []) fs) ≡ flagged (script_trees (program_of_parts bs fs)) (program_of_parts bs fs)
 whole_value bs fs =
     ap (λ z. with_both program_of_parts z (extended routine_trees (Ok []) fs)) (extended_first entry_trees bs)
     ∙ (ap (λ z. with_both program_of_parts (flagged (flat_map entry_trees bs) bs) z) (extended_first routine_trees fs)
@@ -82,7 +82,7 @@ rule_script ts v n r = by 1 ts v n r refl where
 
 pub record Ruled (ts : List Lexeme) (s : SeenScript) : Type 0 where
   pub next : ℕ
-  pub holds : ScriptRule 1 ts (flagged (program_trees s) s) next
+  pub holds : ScriptRule 1 ts (flagged (script_trees s) s) next
 
 statements_on : (m : ℕ) (ts : List Lexeme) (bs : List SeenStatement) (k : ℕ) → AreStatements m ts bs k → (found : Flagged (List SeenStatement)) (us : List Lexeme) (v : Flagged SeenScript) (n : ℕ)
     → ProgramFrom (extended entry_trees found bs) k us v n → ProgramFrom found m (ts ++ us) v n
@@ -122,14 +122,14 @@ module _ (k d : ℕ) where
   read_is_script ts v j h = rule_script ts v j.next ((exact_program k d).sound ts 1 v j h).holds
 
   -- a script is read so, if turns and depth are enough
-  script_is_read : (ts : List Lexeme) (s : SeenScript) → IsScript ts s → (n : ℕ) × IsRead (program k d (input ts 1)) (flagged (program_trees s) s) (input [] n)
-  script_is_read ts s r = let u = script_rule ts s r in (u.next, (exact_program k d).whole ts 1 (flagged (program_trees s) s) u.next u.holds)
+  script_is_read : (ts : List Lexeme) (s : SeenScript) → IsScript ts s → (n : ℕ) × IsRead (program k d (input ts 1)) (flagged (script_trees s) s) (input [] n)
+  script_is_read ts s r = let u = script_rule ts s r in (u.next, (exact_program k d).whole ts 1 (flagged (script_trees s) s) u.next u.holds)
 
-  pub only_read : (ts : List Lexeme) (v : Flagged SeenScript) (j : Input) → program k d (input ts 1) ≡ Ok (v, j) → (s : SeenScript) → IsScript ts s → v ≡ flagged (program_trees s) s
-  only_read ts v j h s r = let u = script_is_read ts s r in ap (λ q. q.0) (subst (λ (o : _). IsRead o (flagged (program_trees s) s) (input [] u.0)) h u.1)
+  pub only_read : (ts : List Lexeme) (v : Flagged SeenScript) (j : Input) → program k d (input ts 1) ≡ Ok (v, j) → (s : SeenScript) → IsScript ts s → v ≡ flagged (script_trees s) s
+  only_read ts v j h s r = let u = script_is_read ts s r in ap (λ q. q.0) (subst (λ (o : _). IsRead o (flagged (script_trees s) s) (input [] u.0)) h u.1)
 
   pub stopped_is_none : (ts : List Lexeme) (n : ℕ) → program k d (input ts 1) ≡ Err (Stop n) → (s : SeenScript) → IsScript ts s → ⊥
-  stopped_is_none ts n h s r = let u = script_is_read ts s r in subst (λ (o : _). IsRead o (flagged (program_trees s) s) (input [] u.0)) h u.1
+  stopped_is_none ts n h s r = let u = script_is_read ts s r in subst (λ (o : _). IsRead o (flagged (script_trees s) s) (input [] u.0)) h u.1
 
   -- where it stopped
   pub record Stopped (ts : List Lexeme) (n : ℕ) : Type 0 where

@@ -1,12 +1,13 @@
 -- The grammar: which tokens are which script. One case stands for each production; parts stand before wholes. All
 -- operators between two operands group to the left. Expressions are numbered through the script, the parts first and
 -- then the whole: an expression from the number m on is followed by the number n.
-use Rattle.std.specs.Prelude.{ℕ, suc, ◌≡◌, ◌&&◌, not, Bool, true, IsTrue, List, [], ◌∷◌, ◌++◌, map, Option, Some, None, codes}
-use Rattle.std.specs.List.{list_all, list_any}
+use Rattle.std.specs.Prelude.{ℕ, suc, ◌≡◌, true, IsTrue, List, [], ◌∷◌, ◌++◌, map, Option, Some, None, codes}
+use Rattle.std.specs.List.{list_all}
+use Rattle.tall_value.specs.Names.{are_distinct}
 use Rattle.tall_grammar.specs.declared.expressions.Prefix.{Prefix}
 use Rattle.tall_grammar.specs.declared.expressions.Infix.{Infix}
 use Rattle.tall_grammar.specs.declared.expressions.Infix.TheVariants.{Or, And}
-use Rattle.tall_grammar.specs.Lexemes.{Lexeme, sign, word, name_token, number_token, text_token, number_value, text_value, is_separator, shows, is_text, comparison, additive, multiplicative, prefix_sign}
+use Rattle.tall_grammar.specs.Lexemes.{Lexeme, sign, word, name_token, number_token, text_token, number_value, text_value, is_separator, shows, comparison, additive, multiplicative, prefix_sign}
 use Rattle.tall_grammar.specs.Trees.{Tree, tree, number, text, name, list, handle, prefixed, joined, member, call, Trees, no_trees, and_tree, Args, no_args, value_arg, colon_arg}
 use Rattle.tall_grammar.specs.Trees.{Step, assign_step, add_step, if_step, while_step, for_step, Steps, no_steps, and_step, Arms, no_arms, and_arm, Body, assigned, gathered, property, bare, SeenStatement, SeenFunction, SeenScript}
 
@@ -204,15 +205,11 @@ pub data AreFunctions : ℕ → List Lexeme → List SeenFunction → ℕ → Ty
       ∷ sign u (codes ",") ∷ t3 ∷ sign v (codes ")") ∷ sep ∷ (ps ++ (ts ++ word w (codes "end") ∷ (qs ++ us))))
       (record { name = s; line = l; params = a ∷ b ∷ c ∷ []; body = body } ∷ fs) n
 
--- no two functions have one name
-abbrev pub are_distinct : List (List ℕ) → Bool
-are_distinct [] = true
-are_distinct (s ∷ ss) = not (list_any (is_text s) ss) && are_distinct ss
-
 abbrev pub function_name : SeenFunction → List ℕ
 function_name f = f.name
 
--- script = { sep } { statement } { function }; in place of a last sep the text may end. Numbers begin at 1.
+-- script = { sep } { statement } { function }; in place of a last sep the text may end. No two functions have one name.
+-- Numbers begin at 1.
 pub data IsScript : List Lexeme → SeenScript → Type 0 where
   a_script : (k n : ℕ) (ps ts us : List Lexeme) (bs : List SeenStatement) (fs : List SeenFunction) → AreSeparators ps
       → AreStatements 1 ts bs k → AreFunctions k us fs n → IsTrue (are_distinct (map function_name fs))

@@ -94,8 +94,8 @@ abbrev mutual
   arms_trees no_arms = []
   arms_trees (and_arm e b arms) = e ∷ (steps_trees b ++ arms_trees arms)
 
-abbrev pub program_trees : SeenScript → List Tree
-program_trees s = flat_map (λ b. body_trees b.form) s.statements ++ flat_map (λ f. steps_trees f.body) s.functions
+abbrev pub script_trees : SeenScript → List Tree
+script_trees s = flat_map (λ b. body_trees b.form) s.statements ++ flat_map (λ f. steps_trees f.body) s.functions
 
 abbrev pub line_of : Tree → ℕ
 line_of (tree k l shape) = l
@@ -106,7 +106,7 @@ first_too_high [] = None
 first_too_high (e ∷ es) = if nat_lt limit (height e) then Some (line_of e) else first_too_high es
 
 abbrev pub too_high : SeenScript → Option ℕ
-too_high s = first_too_high (program_trees s)
+too_high s = first_too_high (script_trees s)
 
 -- ---- the first token with which no script goes on
 

@@ -4,7 +4,7 @@ use Rattle.std.proofs.Common.{ap, sym, subst, ◌∙◌}
 use Rattle.tall_value.specs.declared.class.Class.{Class}
 use Rattle.tall_semantics.specs.Operations.{Op, constant, unary, binary, filter, reduce, scan, head, tail, distinct, group, Made, stored, operation}
 use Rattle.tall_semantics.specs.Spaces.{Space}
-use Rattle.tall_semantics.specs.Shapes.{Shape, Refusal, bad_argument, place_of, shaped}
+use Rattle.tall_semantics.specs.Shapes.{Shape, ShapeRefusal, bad_argument, place_of, shaped}
 use Rattle.tall_semantics.specs.Deferred.{Vertex, AllBelow}
 use Rattle.tall_semantics.specs.ShapesInOrder.{made_shape, shape_at}
 use Rattle.tall_semantics.proofs.ShapeLaws.{shape_ok, place_ok}
@@ -14,18 +14,18 @@ use Rattle.tall_graph.specs.declared.operands.Placed.{Placed}
 use Rattle.tall_graph.specs.Places.{places, AreWithin, made_place, chain_over, space_told}
 use Rattle.tall_graph.specs.Accepted.{tree_made, shape_placed}
 
-abbrev shape_err : Refusal → Result Shape Refusal
+abbrev shape_err : ShapeRefusal → Result Shape ShapeRefusal
 shape_err e = Err e
 
-abbrev place_err : Refusal → Result (Class × Space) Refusal
+abbrev place_err : ShapeRefusal → Result (Class × Space) ShapeRefusal
 place_err e = Err e
 
 -- the shape of a class and a space, or the refusal
-with_place : Made → List Shape → Result (Class × Space) Refusal → Result Shape Refusal
+with_place : Made → List Shape → Result (Class × Space) ShapeRefusal → Result Shape ShapeRefusal
 with_place made xs (Ok p) = Ok (record { class = p.0; space = p.1; tree = tree_made made xs; chain = chain_over made xs })
 with_place made xs (Err e) = Err e
 
-shaped_with : (f : Op) (xs : List Shape) (r : Result (Class × Space) Refusal) → shaped f xs r ≡ with_place (operation f) xs r
+shaped_with : (f : Op) (xs : List Shape) (r : Result (Class × Space) ShapeRefusal) → shaped f xs r ≡ with_place (operation f) xs r
 unfolding with_place
 shaped_with f xs (Ok p) = refl
 shaped_with f xs (Err e) = refl
@@ -36,7 +36,7 @@ made_with (stored s v c) [] = refl
 made_with (stored s v c) (x ∷ xs) = refl
 made_with (operation f) xs = shaped_with f xs (place_of f xs)
 
-pub made_refused : (made : Made) (xs : List Shape) (e : Refusal) → made_place made xs ≡ place_err e → made_shape made xs ≡ shape_err e
+pub made_refused : (made : Made) (xs : List Shape) (e : ShapeRefusal) → made_place made xs ≡ place_err e → made_shape made xs ≡ shape_err e
 unfolding with_place
 made_refused made xs e h = made_with made xs ∙ ap (with_place made xs) h
 

@@ -4,7 +4,7 @@ use Rattle.std.proofs.Common.{ap, sym, subst, ◌∙◌, arith}
 use Rattle.std.proofs.lemmas.List.{length-map}
 use Rattle.std.proofs.lemmas.Option.{slice_get-map, slice_get_read}
 use Rattle.tall_semantics.specs.Shapes.{Shape, level}
-use Rattle.tall_semantics.specs.Spaces.{Space, single, rows_of, kept, first, last, groups, has_rows, store_of}
+use Rattle.tall_semantics.specs.Spaces.{Space, single, rows_of, filtered, first, last, groups, has_rows, store_of}
 use Rattle.tall_semantics.specs.Spaces as spaces
 use Rattle.tall_semantics.specs.Equality.{same_tree, same_space}
 use Rattle.tall_semantics.specs.Forms.{form, space_number}
@@ -29,7 +29,7 @@ use Rattle.tall_graph.specs.Kept.{vertex_of, vertices, AreFacts, IsKept}
 rows_told : (s : Space) → has_rows s ≡ is_some (store_of s)
 rows_told single = refl
 rows_told (rows_of s) = refl
-rows_told (kept s m) = rows_told s
+rows_told (filtered s m) = rows_told s
 rows_told (first k s) = refl
 rows_told (last k s) = refl
 rows_told (spaces.distinct x) = refl

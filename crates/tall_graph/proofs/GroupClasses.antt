@@ -12,15 +12,15 @@ use Rattle.tall_value.specs.Classes.{class_of, kind_of}
 use Rattle.tall_value.specs.FunctionClasses.{method_kind, class_results}
 use Rattle.tall_semantics.specs.Operations.{Part, keys, counts, values}
 use Rattle.tall_semantics.specs.Equality.{part_place}
-use Rattle.tall_semantics.specs.Shapes.{Refusal, allowed, part_class, group_class}
+use Rattle.tall_semantics.specs.Shapes.{ShapeRefusal, allowed, part_class, group_class}
 
-abbrev class_ok : Class → Result Class Refusal
+abbrev class_ok : Class → Result Class ShapeRefusal
 class_ok c = Ok c
 
 abbrev of_columns : Part → (key value : Class) → Class
 of_columns part key value = get_or (class_of (kind_of key) ∷ class.Double ∷ value ∷ []) (part_place part) class.Double
 
-abbrev after : Part → Class → Result Kind ClassFault → Result Class Refusal
+abbrev after : Part → Class → Result Kind ClassFault → Result Class ShapeRefusal
 after part key r = allowed (part_class part (class_results (elim r [ Ok k ↦ Ok (kind_of key ∷ Double ∷ k ∷ []) | Err e ↦ Err e ])))
 
 kind_in : Result Kind ClassFault → Kind

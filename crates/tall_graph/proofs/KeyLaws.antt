@@ -6,7 +6,7 @@ use Rattle.std.proofs.lemmas.Slice.Eq.{bytes_eq-Decides}
 use Rattle.tall_value.specs.declared.functions.Method.{Method}
 use Rattle.tall_value.specs.Cells.{Seen, whole, logical, double, text}
 use Rattle.tall_semantics.specs.Operations.{Op, constant, unary, binary, reduce, scan, head, tail, group, Part, Tree, column, leaf, one, two}
-use Rattle.tall_semantics.specs.Spaces.{Space, single, rows_of, kept, first, last, groups}
+use Rattle.tall_semantics.specs.Spaces.{Space, single, rows_of, filtered, first, last, groups}
 use Rattle.tall_semantics.specs.Spaces as spaces
 use Rattle.tall_semantics.specs.Equality.{same_tree, same_space}
 use Rattle.tall_semantics.specs.Forms.{first_place}
@@ -258,7 +258,7 @@ pub space_key_one : (ss : List Space) (trees : List Tree) (k : SpaceKey) (s t : 
 space_key_one ss trees key.Single s t p q = p ∙ sym q
 space_key_one ss trees (key.RowsOf store) s t p q = p ∙ sym q
 space_key_one ss trees (key.Kept n m) s t p q =
-    p.4 ∙ (ap (λ u. kept u p.1) (space_one ss n p.0 q.0 p.2 q.2) ∙ (ap (kept q.0) (tree_one trees m p.1 q.1 p.3 q.3) ∙ sym q.4))
+    p.4 ∙ (ap (λ u. filtered u p.1) (space_one ss n p.0 q.0 p.2 q.2) ∙ (ap (filtered q.0) (tree_one trees m p.1 q.1 p.3 q.3) ∙ sym q.4))
 space_key_one ss trees (key.First k n) s t p q = p.2 ∙ (ap (first k) (space_one ss n p.0 q.0 p.1 q.1) ∙ sym q.2)
 space_key_one ss trees (key.Last k n) s t p q = p.2 ∙ (ap (last k) (space_one ss n p.0 q.0 p.1 q.1) ∙ sym q.2)
 space_key_one ss trees (key.Distinct m) s t p q = p.2 ∙ (ap spaces.distinct (tree_one trees m p.0 q.0 p.1 q.1) ∙ sym q.2)
@@ -276,7 +276,7 @@ space_key_more ss us trees others (key.Distinct m) s p = (p.0, number_longer sam
 space_key_more ss us trees others (key.Groups m g d) s p =
     (p.0, p.1, number_longer same_tree trees_decided trees others g p.0 p.2, data_more trees others d p.1 p.3, p.4)
 
-kept_inside : (s t : Space) (x y : Tree) → kept s x ≡ kept t y → (s ≡ t) × (x ≡ y)
+kept_inside : (s t : Space) (x y : Tree) → filtered s x ≡ filtered t y → (s ≡ t) × (x ≡ y)
 kept_inside s t x y h = (cc, cc)
 
 first_inside : (j k : ℕ) (s t : Space) → first j s ≡ first k t → (j ≡ k) × (s ≡ t)
@@ -295,7 +295,7 @@ groups_inside m n x y v w h = (cc, cc, cc)
 kind_of : Space → ℕ
 kind_of single = 0
 kind_of (rows_of s) = 1
-kind_of (kept s x) = 2
+kind_of (filtered s x) = 2
 kind_of (first k s) = 3
 kind_of (last k s) = 4
 kind_of (spaces.distinct x) = 5

@@ -3,7 +3,7 @@ use Rattle.std.specs.Prelude.{◌≡◌, refl, Bool, true, false, if◌then◌el
 use Rattle.std.proofs.Common.{ap, sym, ◌∙◌}
 use Rattle.tall_semantics.specs.Spaces.{Space, single, is_single}
 use Rattle.tall_semantics.specs.Equality.{same_space}
-use Rattle.tall_semantics.specs.Shapes.{Refusal, incompatible, common}
+use Rattle.tall_semantics.specs.Shapes.{ShapeRefusal, incompatible, common}
 use Rattle.tall_semantics.proofs.ShapeLaws.{space_ok}
 
 pub common_left : (s t : Space) → is_single s ≡ true → space_ok t ≡ common s t
@@ -20,7 +20,7 @@ common_both single t g h = absurd (cc)
 common_both s single g h = absurd (cc)
 common_both s t g h = refl
 
-tested : Bool → Space → Result Space Refusal
+tested : Bool → Space → Result Space ShapeRefusal
 tested b s = if b then space_ok s else Err incompatible
 
 pub common_same : (s t : Space) → is_single s ≡ false → is_single t ≡ false → same_space s t ≡ true → space_ok s ≡ common s t

@@ -7,7 +7,7 @@ use Rattle.tall_value.specs.declared.class.Class.{Class}
 use Rattle.tall_semantics.specs.Operations.{Op, Made, stored, operation, column}
 use Rattle.tall_semantics.specs.Spaces.{Space, is_single, store_of}
 use Rattle.tall_semantics.specs.Equality.{same_tree, same_space}
-use Rattle.tall_semantics.specs.Shapes.{Shape, Refusal, place_of, stored_shape}
+use Rattle.tall_semantics.specs.Shapes.{Shape, ShapeRefusal, place_of, stored_shape}
 use Rattle.tall_semantics.specs.Shapes as shapes
 use Rattle.tall_semantics.specs.Deferred.{Vertex, AllBelow}
 use Rattle.tall_semantics.specs.InOrder.{blank}
@@ -104,7 +104,7 @@ old_facts vs v s can i w n old facts =
 
 -- ---- the key of what is made
 
-shape_of : Result Shape Refusal → Shape → Shape
+shape_of : Result Shape ShapeRefusal → Shape → Shape
 shape_of (Ok s) d = s
 shape_of (Err e) d = d
 

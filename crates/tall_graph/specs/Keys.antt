@@ -2,7 +2,7 @@
 use Rattle.std.specs.Prelude.{◌≡◌, ℕ, bytes_eq, Option, None, Some, List, [], ◌∷◌}
 use Rattle.tall_value.specs.Cells.{Seen, whole, logical, double, text}
 use Rattle.tall_semantics.specs.Operations.{Op, constant, unary, binary, filter, reduce, scan, head, tail, distinct, group, Made, stored, operation, Tree, column, leaf, one, two}
-use Rattle.tall_semantics.specs.Spaces.{Space, single, rows_of, kept, first, last, groups}
+use Rattle.tall_semantics.specs.Spaces.{Space, single, rows_of, filtered, first, last, groups}
 use Rattle.tall_semantics.specs.Spaces as spaces
 use Rattle.tall_semantics.specs.Equality.{same_tree, same_space}
 use Rattle.tall_graph.specs.declared.keys.CellKey.{CellKey}
@@ -64,7 +64,7 @@ IsForm trees (Some n) t = (x : Tree) × IsNumber same_tree trees n x × (t ≡ S
 abbrev pub IsSpaceKey : (spaces : List Space) → (trees : List Tree) → SpaceKey → Space → Type 0
 IsSpaceKey ss trees key.Single s = s ≡ single
 IsSpaceKey ss trees (key.RowsOf store) s = s ≡ rows_of store
-IsSpaceKey ss trees (key.Kept n m) s = (t : Space) × (x : Tree) × IsNumber same_space ss n t × IsNumber same_tree trees m x × (s ≡ kept t x)
+IsSpaceKey ss trees (key.Kept n m) s = (t : Space) × (x : Tree) × IsNumber same_space ss n t × IsNumber same_tree trees m x × (s ≡ filtered t x)
 IsSpaceKey ss trees (key.First k n) s = (t : Space) × IsNumber same_space ss n t × (s ≡ first k t)
 IsSpaceKey ss trees (key.Last k n) s = (t : Space) × IsNumber same_space ss n t × (s ≡ last k t)
 IsSpaceKey ss trees (key.Distinct m) s = (x : Tree) × IsNumber same_tree trees m x × (s ≡ spaces.distinct x)

@@ -2,9 +2,9 @@
 use Rattle.std.specs.Prelude.{◌≡◌, ℕ, ◌<◌, Option, None, Some, Result, Ok, Err, List, [], ◌∷◌}
 use Rattle.tall_value.specs.declared.class.Class.{Class}
 use Rattle.tall_semantics.specs.Operations.{Made, stored, operation, Tree}
-use Rattle.tall_semantics.specs.Spaces.{Space, single, rows_of, kept, first, last, groups}
+use Rattle.tall_semantics.specs.Spaces.{Space, single, rows_of, filtered, first, last, groups}
 use Rattle.tall_semantics.specs.Spaces as spaces
-use Rattle.tall_semantics.specs.Shapes.{Shape, Refusal, bad_argument, place_of, chain_of}
+use Rattle.tall_semantics.specs.Shapes.{Shape, ShapeRefusal, bad_argument, place_of, chain_of}
 use Rattle.tall_semantics.specs.Equality.{same_space}
 use Rattle.tall_semantics.specs.Deferred.{Vertex}
 use Rattle.tall_semantics.specs.ShapesInOrder.{shape_at}
@@ -48,22 +48,22 @@ abbrev pub space_told : List Vertex → NewSpace → Space
 space_told vs (new.Of x) = (shape_at vs x).space
 space_told vs new.Single = single
 space_told vs (new.RowsOf s) = rows_of s
-space_told vs (new.Kept x m) = kept (shape_at vs x).space (tree_at vs m)
+space_told vs (new.Kept x m) = filtered (shape_at vs x).space (tree_at vs m)
 space_told vs (new.First k x) = first k (shape_at vs x).space
 space_told vs (new.Last k x) = last k (shape_at vs x).space
 space_told vs (new.Distinct x) = spaces.distinct (tree_at vs x)
 space_told vs (new.Groups m g d) = groups m (tree_at vs g) (data_at vs d)
 
-abbrev pub space_result : List Vertex → Result NewSpace GraphFault → Result Space Refusal
+abbrev pub space_result : List Vertex → Result NewSpace GraphFault → Result Space ShapeRefusal
 space_result vs (Ok s) = Ok (space_told vs s)
 space_result vs (Err e) = Err (refusal_of e)
 
-abbrev pub place_result : List Vertex → Result Placed GraphFault → Result (Class × Space) Refusal
+abbrev pub place_result : List Vertex → Result Placed GraphFault → Result (Class × Space) ShapeRefusal
 place_result vs (Ok p) = Ok (p.class, space_told vs p.space)
 place_result vs (Err e) = Err (refusal_of e)
 
 -- the class and the space of what is made of operands with these shapes, or why it is refused
-abbrev pub made_place : Made → List Shape → Result (Class × Space) Refusal
+abbrev pub made_place : Made → List Shape → Result (Class × Space) ShapeRefusal
 made_place (stored s v c) [] = Ok (c, rows_of s)
 made_place (stored s v c) (x ∷ xs) = Err bad_argument
 made_place (operation f) xs = place_of f xs

@@ -3,7 +3,7 @@ use Rattle.std.specs.Prelude.{ℕ, ◌<◌, Bool, true, false, ◌==◌, if◌th
 use Rattle.tall_value.specs.declared.class.Class.{Class}
 use Rattle.tall_value.specs.OwnedCells.{owned_seen}
 use Rattle.tall_semantics.specs.Operations.{constant, unary, binary, filter, reduce, scan, head, tail, distinct, group, Part, keys, counts, values, Made, stored, operation}
-use Rattle.tall_semantics.specs.Shapes.{Refusal, mixed_class, bad_class, incompatible, bad_argument}
+use Rattle.tall_semantics.specs.Shapes.{ShapeRefusal, mixed_class, bad_class, incompatible, bad_argument}
 use Rattle.tall_semantics.specs.Deferred.{Vertex}
 use Rattle.tall_graph.specs.declared.classes.Part.{Part as CodePart}
 use Rattle.tall_graph.specs.declared.classes.Part.TheVariants as part
@@ -45,7 +45,7 @@ vertex number line f args = record { at = record { number = number; line = line 
 -- ---- refusals
 
 -- want of memory is no refusal, so any will do for it
-abbrev pub refusal_of : GraphFault → Refusal
+abbrev pub refusal_of : GraphFault → ShapeRefusal
 refusal_of fault.MixedClass = mixed_class
 refusal_of fault.BadClass = bad_class
 refusal_of fault.Incompatible = incompatible
@@ -56,6 +56,6 @@ abbrev pub is_memory : GraphFault → Bool
 is_memory fault.Memory = true
 is_memory e = false
 
-abbrev pub class_seen : Result Class GraphFault → Result Class Refusal
+abbrev pub class_seen : Result Class GraphFault → Result Class ShapeRefusal
 class_seen (Ok c) = Ok c
 class_seen (Err e) = Err (refusal_of e)

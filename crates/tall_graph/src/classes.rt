@@ -1,14 +1,13 @@
-//! The class tables of the functions of whole columns.
+//! The columns of `groupsummary`, the classes of its columns and of what a mask indexes, and refused classes.
 ghost use Rattle.std.specs.Prelude.{◌≡◌, [], ◌∷◌, get_or};
 ghost use Rattle.tall_value.specs.Classes.{class_of, kind_of};
-ghost use Rattle.tall_value.specs.ClassTables.{of_number as number_kind, sign_kind};
-ghost use Rattle.tall_value.specs.FunctionClasses.{logical_kind, method_kind, ordered_kind, reduction_class, reduction_kind, scan_class, scan_kind, sum_kind};
+ghost use Rattle.tall_value.specs.FunctionClasses.{logical_kind};
 ghost use Rattle.tall_semantics.specs.Equality.{part_place};
 ghost use Rattle.tall_semantics.specs.Shapes.{allowed, group_class, masked_class};
 ghost use Rattle.tall_graph.specs.Vertices.{class_seen, part_of, part_seen};
 
 use crate::operations::GraphFault;
-use tall_value::{Class, ClassFault, Kind, Method, Reduction, Scan};
+use tall_value::{Class, ClassFault, Method, logical_kind, method_kind};
 
 /// The columns that `groupsummary` makes.
 #[derive(Clone, Copy, PartialEq, Eq)]
@@ -42,88 +41,6 @@ pub(crate) fn allowed(class: Result<Class, ClassFault>) -> Result<Class, GraphFa
     }
 }
 
-fn ordered_kind(a: Kind) -> Result<Kind, ClassFault>
-    ensures { result ≡ ordered_kind a }
-{
-    match a {
-        Kind::Integer(k) => Ok(Kind::Integer(k)),
-        Kind::Double => Ok(Kind::Double),
-        Kind::Logical | Kind::Text => Err(ClassFault::BadClass),
-    }
-}
-
-fn logical_kind(a: Kind) -> Result<Kind, ClassFault>
-    ensures { result ≡ logical_kind a }
-{
-    match a {
-        Kind::Logical => Ok(Kind::Logical),
-        Kind::Integer(_) | Kind::Double | Kind::Text => Err(ClassFault::BadClass),
-    }
-}
-
-fn number_kind(a: Kind) -> Result<Kind, ClassFault>
-    ensures { result ≡ number_kind a Kind.Double }
-{
-    match a {
-        Kind::Text => Err(ClassFault::BadClass),
-        Kind::Integer(_) | Kind::Logical | Kind::Double => Ok(Kind::Double),
-    }
-}
-
-fn sign_kind(a: Kind) -> Result<Kind, ClassFault>
-    ensures { result ≡ sign_kind a }
-{
-    match a {
-        Kind::Integer(k) => Ok(Kind::Integer(k)),
-        Kind::Logical | Kind::Double => Ok(Kind::Double),
-        Kind::Text => Err(ClassFault::BadClass),
-    }
-}
-
-fn sum_kind(native: bool, a: Kind) -> Result<Kind, ClassFault>
-    ensures { result ≡ sum_kind native a }
-{
-    match native {
-        false => number_kind(a),
-        true => ordered_kind(a),
-    }
-}
-
-fn reduction_kind(r: Reduction, a: Kind) -> Result<Kind, ClassFault>
-    ensures { result ≡ reduction_kind r a }
-{
-    match r {
-        Reduction::Sum { native, .. } => sum_kind(native, a),
-        Reduction::Min | Reduction::Max => ordered_kind(a),
-        Reduction::Any | Reduction::All => logical_kind(a),
-        Reduction::Nnz => number_kind(a),
-        Reduction::Numel | Reduction::Height => Ok(Kind::Double),
-    }
-}
-
-/// The class of a reduction of a column, or why the column's class is refused.
-pub(crate) fn reduction_class(r: Reduction, a: Class) -> Result<Class, ClassFault>
-    ensures { result ≡ reduction_class r a }
-{
-    Ok(reduction_kind(r, a.kind())?.class())
-}
-
-fn scan_kind(s: Scan, a: Kind) -> Result<Kind, ClassFault>
-    ensures { result ≡ scan_kind s a }
-{
-    match s {
-        Scan::CumSum => sign_kind(a),
-        Scan::CumMin | Scan::CumMax => ordered_kind(a),
-    }
-}
-
-/// The class of a scan of a column, or why the column's class is refused.
-pub(crate) fn scan_class(s: Scan, a: Class) -> Result<Class, ClassFault>
-    ensures { result ≡ scan_class s a }
-{
-    Ok(scan_kind(s, a.kind())?.class())
-}
-
 /// The class of a column that a mask indexes, or that the mask is no logical.
 pub(crate) fn masked_class(a: Class, mask: Class) -> Result<Class, ClassFault>
     ensures { result ≡ masked_class a (logical_kind (kind_of mask)) }
@@ -131,16 +48,6 @@ pub(crate) fn masked_class(a: Class, mask: Class) -> Result<Class, ClassFault>
     match logical_kind(mask.kind()) {
         Ok(_) => Ok(a),
         Err(e) => Err(e),
-    }
-}
-
-fn method_kind(m: Method, a: Kind) -> Result<Kind, ClassFault>
-    ensures { result ≡ method_kind m a }
-{
-    match m {
-        Method::Count | Method::Nummissing => Ok(Kind::Double),
-        Method::Sum | Method::Nnz => number_kind(a),
-        Method::SumNative | Method::Min | Method::Max => ordered_kind(a),
     }
 }
 

@@ -9,11 +9,11 @@ ghost use Rattle.tall_semantics.specs.ShapesInOrder.{shape_at};
 ghost use Rattle.tall_graph.specs.Places.{AreWithin, IsWithin, chain_over, made_place, place_result, places, space_result, space_told};
 ghost use Rattle.tall_graph.specs.Vertices.{class_seen, made_of, part_seen};
 
-use crate::classes::{Part, allowed, group_class, masked_class, reduction_class, scan_class};
+use crate::classes::{Part, allowed, group_class, masked_class};
 use crate::graph::Graph;
 use crate::operands::{NewSpace, Operands, Placed};
 use crate::operations::{GraphFault, NodeId, NodeOp};
-use tall_value::{Class, Method, result_class, unary_class};
+use tall_value::{Class, Method, reduction_class, result_class, scan_class, unary_class};
 
 impl Graph {
     /// The class is looked at before the space.

@@ -11,13 +11,9 @@ use Rattle.tall_clamp.specs.Clamps.{after, apply, row_clamp, Sums}
 use Rattle.tall_clamp.specs.Folds.{no_clamp, of_both}
 use Rattle.tall_clamp.specs.Outcomes.{numbers, picked}
 use Rattle.tall_clamp.specs.declared.bounds.Bounds.{Bounds}
+use Rattle.tall_value.specs.CellOperators.{or_zero}
 use Rattle.tall_value.specs.Reductions.{total}
 use Rattle.tall_group.specs.States.{IsRange}
-
--- the number, or 0 for NaN
-abbrev pub or_zero : Option ℤ → ℤ
-or_zero (Some n) = n
-or_zero None = pos 0
 
 numbers_append : (ds es : List (Option ℤ)) → numbers (ds ++ es) ≡ numbers ds ++ numbers es
 numbers_append ds es = filter_map-append (λ (t : Option ℤ). t) ds es

@@ -3,7 +3,7 @@ ghost use Rattle.std.specs.Prelude.{◌≡◌, ℤ, ◌+ℤ◌, ◌≤ℤ◌, po
 ghost use Rattle.tall_value.specs.Cells.{Seen, seen};
 ghost use Rattle.tall_clamp.specs.Folds.{IsTotal};
 ghost use Rattle.tall_group.specs.States.{IsTotalOf, IsWithin, IsRange, double_or_none, total_given};
-ghost use Rattle.tall_group.specs.StateLaws.{or_zero};
+ghost use Rattle.tall_value.specs.CellOperators.{or_zero};
 
 use crate::states::GroupState;
 use std::marker::Model;

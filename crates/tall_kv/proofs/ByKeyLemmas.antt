@@ -13,7 +13,7 @@ use Rattle.tall_value.specs.Cells.{Seen}
 use Rattle.tall_value.specs.CellOrder.{cell_order}
 use Rattle.tall_value.proofs.OrderLaws.{cells_total}
 use Rattle.tall_column.specs.Columns.{SeenColumn, class_of_cell, with_cell}
-use Rattle.tall_local.specs.Pairs.{Pair, is_key_of, keys_after, keys_of, value_of, values_of}
+use Rattle.tall_local.specs.Pairs.{Pair, is_key_of, keys_after, distinct_keys, pair_value, values_of}
 use Rattle.tall_kv.specs.ByKey.{groups_beside, groups_of, is_this_key, values_column, value_put, with_value_at}
 use Rattle.tall_kv.specs.declared.key.Key.{Key}
 use Rattle.tall_kv.specs.Keys.{key_seen, without_class}
@@ -72,7 +72,7 @@ after_more met (q ∷ ps) p = by (list_any (λ key. is_key_of key q) met) (after
       ∙ ap (λ b. q.key ∷ keys_after (q.key ∷ met) ps ++ new_key b p)
       (or_moved (is_this_key p.key q.key) (list_any (is_this_key p.key) met) (list_any (is_this_key p.key) (keys_after (q.key ∷ met) ps)))
 
-pub keys_more : (ps : List Pair) (p : Pair) → keys_of (ps ++ p ∷ []) ≡ keys_of ps ++ new_key (list_any (is_this_key p.key) (keys_of ps)) p
+pub keys_more : (ps : List Pair) (p : Pair) → distinct_keys (ps ++ p ∷ []) ≡ distinct_keys ps ++ new_key (list_any (is_this_key p.key) (distinct_keys ps)) p
 keys_more ps p = after_more [] ps p
 
 -- ---- no key comes twice
@@ -107,10 +107,10 @@ after_apart met (p ∷ ps) = by (list_any (λ key. is_key_of key p) met) refl (a
 
 values_more : (key : Seen) (ps : List Pair) (p : Pair) → values_of key (ps ++ p ∷ []) ≡ values_of key ps ++ cond (is_key_of key p) (p.value ∷ []) []
 values_more key ps p =
-    ap (map value_of) (filter-append (is_key_of key) ps (p ∷ []))
-    ∙ map-append value_of (filter (is_key_of key) ps) (filter (is_key_of key) (p ∷ []))
+    ap (map pair_value) (filter-append (is_key_of key) ps (p ∷ []))
+    ∙ map-append pair_value (filter (is_key_of key) ps) (filter (is_key_of key) (p ∷ []))
     ∙ ap (λ vs. values_of key ps ++ vs) (by (is_key_of key p)) where
-      by : (b : Bool) → map value_of (cond b (p ∷ []) []) ≡ cond b (p.value ∷ []) []
+      by : (b : Bool) → map pair_value (cond b (p ∷ []) []) ≡ cond b (p.value ∷ []) []
       by true = refl
       by false = refl
 
@@ -155,8 +155,8 @@ none_named c (k ∷ ks) h = let a = either (is_this_key c k) (list_any (is_this_
 no_values : (met : List Seen) (ps : List Pair) (c : Seen) → list_any (is_this_key c) met ≡ false → list_any (is_this_key c) (keys_after met ps) ≡ false → values_of c ps ≡ []
 no_values met [] c old fresh = refl
 no_values met (p ∷ ps) c old fresh = by (list_any (λ key. is_key_of key p) met) refl fresh (no_values met ps c) (no_values (p.key ∷ met) ps c) where
-  skip : (b : Bool) → is_key_of c p ≡ b → b ≡ false → values_of c ps ≡ [] → map value_of (cond (is_key_of c p) (p ∷ filter (is_key_of c) ps) (filter (is_key_of c) ps)) ≡ []
-  skip b is none rest = ap (λ b. map value_of (cond b (p ∷ filter (is_key_of c) ps) (filter (is_key_of c) ps))) (is ∙ none) ∙ rest
+  skip : (b : Bool) → is_key_of c p ≡ b → b ≡ false → values_of c ps ≡ [] → map pair_value (cond (is_key_of c p) (p ∷ filter (is_key_of c) ps) (filter (is_key_of c) ps)) ≡ []
+  skip b is none rest = ap (λ b. map pair_value (cond b (p ∷ filter (is_key_of c) ps) (filter (is_key_of c) ps))) (is ∙ none) ∙ rest
 
   met_before : (b : Bool) → is_key_of c p ≡ b → list_any (is_this_key p.key) met ≡ true → b ≡ false
   met_before true is any = absurd (true≢false (sym any ∙ sym (any_same c p.key met is) ∙ old))
@@ -165,7 +165,7 @@ no_values met (p ∷ ps) c old fresh = by (list_any (λ key. is_key_of key p) me
   by : (b : Bool) → list_any (is_this_key p.key) met ≡ b → list_any (is_this_key c) (cond b (keys_after met ps) (p.key ∷ keys_after (p.key ∷ met) ps)) ≡ false
       → (list_any (is_this_key c) met ≡ false → list_any (is_this_key c) (keys_after met ps) ≡ false → values_of c ps ≡ [])
       → (list_any (is_this_key c) (p.key ∷ met) ≡ false → list_any (is_this_key c) (keys_after (p.key ∷ met) ps) ≡ false → values_of c ps ≡ [])
-      → map value_of (cond (is_key_of c p) (p ∷ filter (is_key_of c) ps) (filter (is_key_of c) ps)) ≡ []
+      → map pair_value (cond (is_key_of c p) (p ∷ filter (is_key_of c) ps) (filter (is_key_of c) ps)) ≡ []
   by true any none same rest = skip (is_key_of c p) refl (met_before (is_key_of c p) refl any) (same old none)
   by false any none same rest =
       let a = either (is_this_key c p.key) (list_any (is_this_key c) (keys_after (p.key ∷ met) ps)) none in
@@ -174,28 +174,28 @@ no_values met (p ∷ ps) c old fresh = by (list_any (λ key. is_key_of key p) me
 
 -- ---- one more pair
 
-pub columns_more : (class : Class) (ps : List Pair) (p : Pair) (new : Bool) (place : ℕ) → new ≡ not (list_any (is_this_key p.key) (keys_of ps)) → place ≡ position_or_len (is_this_key p.key) (keys_of ps)
-    → with_value_at class (map (values_column class ps) (keys_of ps)) place new p.value ≡ map (values_column class (ps ++ p ∷ [])) (keys_of (ps ++ p ∷ []))
+pub columns_more : (class : Class) (ps : List Pair) (p : Pair) (new : Bool) (place : ℕ) → new ≡ not (list_any (is_this_key p.key) (distinct_keys ps)) → place ≡ position_or_len (is_this_key p.key) (distinct_keys ps)
+    → with_value_at class (map (values_column class ps) (distinct_keys ps)) place new p.value ≡ map (values_column class (ps ++ p ∷ [])) (distinct_keys (ps ++ p ∷ []))
 columns_more class ps p new place h at =
-    ap (λ b. with_value_at class (map (values_column class ps) (keys_of ps)) place b p.value) h
-    ∙ by (list_any (is_this_key p.key) (keys_of ps)) refl
+    ap (λ b. with_value_at class (map (values_column class ps) (distinct_keys ps)) place b p.value) h
+    ∙ by (list_any (is_this_key p.key) (distinct_keys ps)) refl
     ∙ ap (map (values_column class (ps ++ p ∷ []))) (sym (keys_more ps p)) where
-      alone : list_any (is_this_key p.key) (keys_of ps) ≡ false → record { class = class; cells = p.value ∷ [] } ≡ values_column class (ps ++ p ∷ []) p.key
+      alone : list_any (is_this_key p.key) (distinct_keys ps) ≡ false → record { class = class; cells = p.value ∷ [] } ≡ values_column class (ps ++ p ∷ []) p.key
       alone any =
           ap (λ vs. record { class = class; cells = vs })
           (sym (values_more p.key ps p ∙ ap (λ b. values_of p.key ps ++ cond b (p.value ∷ []) []) (own p.key) ∙ ap (λ vs. vs ++ p.value ∷ []) (no_values [] ps p.key refl any)))
 
-      by : (b : Bool) → list_any (is_this_key p.key) (keys_of ps) ≡ b
-          → with_value_at class (map (values_column class ps) (keys_of ps)) place (not b) p.value ≡ map (values_column class (ps ++ p ∷ [])) (keys_of ps ++ new_key (list_any (is_this_key p.key) (keys_of ps)) p)
+      by : (b : Bool) → list_any (is_this_key p.key) (distinct_keys ps) ≡ b
+          → with_value_at class (map (values_column class ps) (distinct_keys ps)) place (not b) p.value ≡ map (values_column class (ps ++ p ∷ [])) (distinct_keys ps ++ new_key (list_any (is_this_key p.key) (distinct_keys ps)) p)
       by true any =
-          ap (λ n. value_put (map (values_column class ps) (keys_of ps)) n p.value) at
-          ∙ put class (keys_of ps) ps p (after_apart [] ps).1 any
-          ∙ ap (map (values_column class (ps ++ p ∷ []))) (sym (append-nil (keys_of ps)) ∙ ap (λ b. keys_of ps ++ new_key b p) (sym any))
+          ap (λ n. value_put (map (values_column class ps) (distinct_keys ps)) n p.value) at
+          ∙ put class (distinct_keys ps) ps p (after_apart [] ps).1 any
+          ∙ ap (map (values_column class (ps ++ p ∷ []))) (sym (append-nil (distinct_keys ps)) ∙ ap (λ b. distinct_keys ps ++ new_key b p) (sym any))
       by false any =
-          ap (λ columns. columns ++ record { class = class; cells = p.value ∷ [] } ∷ []) (unchanged class (keys_of ps) ps p (none_named p.key (keys_of ps) any))
-          ∙ ap (λ column. map (values_column class (ps ++ p ∷ [])) (keys_of ps) ++ column ∷ []) (alone any)
-          ∙ sym (map-append (values_column class (ps ++ p ∷ [])) (keys_of ps) (p.key ∷ []))
-          ∙ ap (λ b. map (values_column class (ps ++ p ∷ [])) (keys_of ps ++ new_key b p)) (sym any)
+          ap (λ columns. columns ++ record { class = class; cells = p.value ∷ [] } ∷ []) (unchanged class (distinct_keys ps) ps p (none_named p.key (distinct_keys ps) any))
+          ∙ ap (λ column. map (values_column class (ps ++ p ∷ [])) (distinct_keys ps) ++ column ∷ []) (alone any)
+          ∙ sym (map-append (values_column class (ps ++ p ∷ [])) (distinct_keys ps) (p.key ∷ []))
+          ∙ ap (λ b. map (values_column class (ps ++ p ∷ [])) (distinct_keys ps ++ new_key b p)) (sym any)
 
 -- ---- keys beside columns
 
@@ -232,16 +232,16 @@ HasValueClass class [] = Unit {0}
 HasValueClass class (p ∷ ps) = class ≡ class_of_cell p.value
 
 pub record IsGrouped (class key_class : Class) (done : List Pair) (keys : SeenColumn) (met : List Key) (columns : List SeenColumn) : Type 0 where
-  pub keys_are : keys.cells ≡ keys_of done
+  pub keys_are : keys.cells ≡ distinct_keys done
   pub class_is : keys.class ≡ key_class
-  pub met_are : map key_seen met ≡ map without_class (keys_of done)
-  pub columns_are : columns ≡ map (values_column class done) (keys_of done)
+  pub met_are : map key_seen met ≡ map without_class (distinct_keys done)
+  pub columns_are : columns ≡ map (values_column class done) (distinct_keys done)
   pub values_have : HasValueClass class done
 
-keys_step : (done : List Pair) (p : Pair) (new : Bool) → new ≡ not (list_any (is_this_key p.key) (keys_of done)) → keys_of (done ++ p ∷ []) ≡ cond new (keys_of done ++ p.key ∷ []) (keys_of done)
-keys_step done p new h = keys_more done p ∙ by (list_any (is_this_key p.key) (keys_of done)) ∙ ap (λ b. cond b (keys_of done ++ p.key ∷ []) (keys_of done)) (sym h) where
-  by : (b : Bool) → keys_of done ++ new_key b p ≡ cond (not b) (keys_of done ++ p.key ∷ []) (keys_of done)
-  by true = append-nil (keys_of done)
+keys_step : (done : List Pair) (p : Pair) (new : Bool) → new ≡ not (list_any (is_this_key p.key) (distinct_keys done)) → distinct_keys (done ++ p ∷ []) ≡ cond new (distinct_keys done ++ p.key ∷ []) (distinct_keys done)
+keys_step done p new h = keys_more done p ∙ by (list_any (is_this_key p.key) (distinct_keys done)) ∙ ap (λ b. cond b (distinct_keys done ++ p.key ∷ []) (distinct_keys done)) (sym h) where
+  by : (b : Bool) → distinct_keys done ++ new_key b p ≡ cond (not b) (distinct_keys done ++ p.key ∷ []) (distinct_keys done)
+  by true = append-nil (distinct_keys done)
   by false = refl
 
 cells_step : (new : Bool) (keys : SeenColumn) (c : Seen) → (cond new (with_cell keys c) keys).cells ≡ cond new (keys.cells ++ c ∷ []) keys.cells
@@ -282,13 +282,13 @@ pub more_grouped : (class key_class : Class) (done : List Pair) (keys more_keys 
     → more_columns ≡ with_value_at class columns place new p.value → class_of_cell p.value ≡ class
     → IsGrouped class key_class (done ++ p ∷ []) more_keys more_met more_columns
 more_grouped class key_class done keys more_keys met more_met columns more_columns p new place is new_told place_told keys_told met_told columns_told value_told =
-    let n = new_is met (keys_of done) p.key new is.met_are new_told in
-    let at = place_is met (keys_of done) p.key place is.met_are place_told in
+    let n = new_is met (distinct_keys done) p.key new is.met_are new_told in
+    let at = place_is met (distinct_keys done) p.key place is.met_are place_told in
     let ks = keys_step done p new n in
     record {
       keys_are = ap (λ k. k.cells) keys_told ∙ cells_step new keys p.key ∙ ap (λ cs. cond new (cs ++ p.key ∷ []) cs) is.keys_are ∙ sym ks;
       class_is = ap (λ k. k.class) keys_told ∙ class_step new keys p.key ∙ is.class_is;
-      met_are = met_told ∙ ap (λ ms. cond new (ms ++ without_class p.key ∷ []) ms) is.met_are ∙ map_step new (keys_of done) p.key ∙ ap (map without_class) (sym ks);
+      met_are = met_told ∙ ap (λ ms. cond new (ms ++ without_class p.key ∷ []) ms) is.met_are ∙ map_step new (distinct_keys done) p.key ∙ ap (map without_class) (sym ks);
       columns_are = columns_told ∙ ap (λ cs. with_value_at class cs place new p.value) is.columns_are ∙ columns_more class done p new place n at;
       values_have = value_class class done p is.values_have value_told;
     }
@@ -303,9 +303,9 @@ found_within test (k ∷ ks) h = by (test k) h (λ any. found_within test ks any
 pub place_within : (class key_class : Class) (done : List Pair) (keys : SeenColumn) (met : List Key) (columns : List SeenColumn) (c : Seen) (new : Bool) (place : ℕ) → IsGrouped class key_class done keys met columns
     → new ≡ not (list_any (is_this_key c) (map key_seen met)) → place ≡ position_or_len (is_this_key c) (map key_seen met) → new ≡ false → place < length columns
 place_within class key_class done keys met columns c new place is new_told place_told old =
-    let at = place_is met (keys_of done) c place is.met_are place_told in
-    let within = found_within (is_this_key c) (keys_of done) (by (list_any (is_this_key c) (keys_of done)) (sym (new_is met (keys_of done) c new is.met_are new_told) ∙ old)) in
-    let e : length columns ≡ length (keys_of done) = ap length is.columns_are ∙ length-map (keys_of done) (values_column class done) in
+    let at = place_is met (distinct_keys done) c place is.met_are place_told in
+    let within = found_within (is_this_key c) (distinct_keys done) (by (list_any (is_this_key c) (distinct_keys done)) (sym (new_is met (distinct_keys done) c new is.met_are new_told) ∙ old)) in
+    let e : length columns ≡ length (distinct_keys done) = ap length is.columns_are ∙ length-map (distinct_keys done) (values_column class done) in
     omega (arith, at, within, e) where
       by : (b : Bool) → not b ≡ false → b ≡ true
       by true h = refl
@@ -319,7 +319,7 @@ have_class class ps (k ∷ ks) (suc i) d h = have_class class ps ks i d (omega (
 pub have_the_class : (class key_class : Class) (done : List Pair) (keys : SeenColumn) (met : List Key) (columns : List SeenColumn) → IsGrouped class key_class done keys met columns
     → (i : ℕ) (d : SeenColumn) → i < length columns → (get_or columns i d).class ≡ class
 have_the_class class key_class done keys met columns is i d h =
-    ap (λ cs. (get_or cs i d).class) is.columns_are ∙ have_class class done (keys_of done) i d (subst (λ cs. i < length cs) is.columns_are h)
+    ap (λ cs. (get_or cs i d).class) is.columns_are ∙ have_class class done (distinct_keys done) i d (subst (λ cs. i < length cs) is.columns_are h)
 
 pub take_next : (ps : List Pair) (i : ℕ) (p : Pair) → slice_get ps i ≡ Some p → take (i + 1) ps ≡ take i ps ++ p ∷ []
 take_next [] i p at = absurd (none-some p at)
@@ -329,13 +329,13 @@ take_next (q ∷ ps) (suc i) p at = let e : suc i + 1 ≡ suc (i + 1) = omega ar
 -- ---- all pairs
 
 same_groups : (class : Class) (ps : List Pair) → HasValueClass class ps
-    → map (λ key. record { key = key; values = values_column class ps key }) (keys_of ps) ≡ groups_of ps
+    → map (λ key. record { key = key; values = values_column class ps key }) (distinct_keys ps) ≡ groups_of ps
 same_groups class [] h = refl
-same_groups class (p ∷ ps) h = ap (λ class. map (λ key. record { key = key; values = values_column class (p ∷ ps) key }) (keys_of (p ∷ ps))) h
+same_groups class (p ∷ ps) h = ap (λ class. map (λ key. record { key = key; values = values_column class (p ∷ ps) key }) (distinct_keys (p ∷ ps))) h
 
 pub groups_are : (class key_class : Class) (ps : List Pair) (keys : SeenColumn) (met : List Key) (columns : List SeenColumn) → IsGrouped class key_class ps keys met columns → groups_beside keys.cells columns ≡ groups_of ps
 groups_are class key_class ps keys met columns is =
-    ap (λ ks. groups_beside ks columns) is.keys_are ∙ ap (groups_beside (keys_of ps)) is.columns_are ∙ beside_columns class ps (keys_of ps) ∙ same_groups class ps is.values_have
+    ap (λ ks. groups_beside ks columns) is.keys_are ∙ ap (groups_beside (distinct_keys ps)) is.columns_are ∙ beside_columns class ps (distinct_keys ps) ∙ same_groups class ps is.values_have
 
 pub all_grouped : (class key_class : Class) (n : ℕ) (ps : List Pair) (keys : SeenColumn) (met : List Key) (columns : List SeenColumn) → IsGrouped class key_class (take n ps) keys met columns → length ps ≤ n
     → groups_beside keys.cells columns ≡ groups_of ps

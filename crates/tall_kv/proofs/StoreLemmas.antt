@@ -1,16 +1,15 @@
 -- Pairs in columns.
 use Rattle.std.proofs.Common.{◌≡◌, ℕ, zero, suc, ◌≤◌, ◌<◌, ◌+◌, List, [], ◌∷◌, ◌++◌, length, take, get_or, refl, ap, sym, subst, ◌∙◌, arith}
-use Rattle.std.proofs.lemmas.Bool.{eqb-true, true≢false, and_parts, le-ltb, lt-ltb, ltb-true}
+use Rattle.std.proofs.lemmas.Bool.{and_parts, le-ltb, lt-ltb, ltb-true}
 use Rattle.std.proofs.lemmas.List.{append-nil, append_assoc, length-append, length_push}
 use Rattle.std.specs.Prelude.{Bool, true, false, ◌&&◌, ◌^◌, None, Some, Result, Ok, Err, option_map, slice_get}
 use Rattle.std.proofs.lemmas.Option.{none-some}
-use Rattle.tall_value.specs.declared.class.IntKind.{IntKind}
 use Rattle.tall_value.specs.declared.class.IntKind.TheVariants.{Int8, Int16, Int32, Int64, Uint8, Uint16, Uint32, Uint64}
 use Rattle.tall_value.specs.declared.class.Kind.{Kind}
 use Rattle.tall_value.specs.declared.class.Kind.TheVariants.{Integer, Logical, Double, Text}
 use Rattle.tall_value.specs.Cells.{Seen, seen_kind}
-use Rattle.tall_value.specs.Classes.{is_same, place}
 use Rattle.tall_local.specs.Refusals.{Refusal, stop_at, too_many_rows}
+use Rattle.tall_local.proofs.KeyLaws.{same_kinds}
 use Rattle.tall_local.specs.Pairs.{Pair, append_if, appended, has_room, is_key, key_fits, value_fits, is_within_store, judged, misfit, same_class, same_kind, with_pair}
 use Rattle.tall_kv.specs.declared.rows.Rows.{Rows}
 use Rattle.tall_kv.specs.declared.faults.PairFault.{PairFault}
@@ -80,41 +79,6 @@ misfit_is r key value line n k v long lines keys values =
     ∙ misfit_of_columns r.lines.items r.keys.cells r.values.cells key value line long.keys long.values
 
 -- ---- classes
-
-of_place : ℕ → IntKind
-of_place n = get_or (Int8 ∷ Int16 ∷ Int32 ∷ Int64 ∷ Uint8 ∷ Uint16 ∷ Uint32 ∷ Uint64 ∷ []) n Int8
-
-by_place : (k : IntKind) → of_place (place k) ≡ k
-unfolding of_place
-by_place Int8 = refl
-by_place Int16 = refl
-by_place Int32 = refl
-by_place Int64 = refl
-by_place Uint8 = refl
-by_place Uint16 = refl
-by_place Uint32 = refl
-by_place Uint64 = refl
-
-same_places : (j k : IntKind) → is_same j k ≡ true → j ≡ k
-same_places j k h = sym (by_place j) ∙ ap of_place (eqb-true (place j) (place k) h) ∙ by_place k
-
-kinds_are_same : (j k : Kind) → same_kind j k ≡ true → j ≡ k
-kinds_are_same (Integer i) (Integer j) h = ap Integer (same_places i j h)
-kinds_are_same (Integer i) Logical h = absurd (true≢false (sym h))
-kinds_are_same (Integer i) Double h = absurd (true≢false (sym h))
-kinds_are_same (Integer i) Text h = absurd (true≢false (sym h))
-kinds_are_same Logical (Integer j) h = absurd (true≢false (sym h))
-kinds_are_same Logical Logical h = refl
-kinds_are_same Logical Double h = absurd (true≢false (sym h))
-kinds_are_same Logical Text h = absurd (true≢false (sym h))
-kinds_are_same Double (Integer j) h = absurd (true≢false (sym h))
-kinds_are_same Double Logical h = absurd (true≢false (sym h))
-kinds_are_same Double Double h = refl
-kinds_are_same Double Text h = absurd (true≢false (sym h))
-kinds_are_same Text (Integer j) h = absurd (true≢false (sym h))
-kinds_are_same Text Logical h = absurd (true≢false (sym h))
-kinds_are_same Text Double h = absurd (true≢false (sym h))
-kinds_are_same Text Text h = refl
 
 same_to_itself : (k : Kind) → same_kind k k ≡ true
 same_to_itself (Integer Int8) = refl
@@ -190,7 +154,7 @@ unfolding FirstHas
 first_has [] q none = tt
 first_has (p ∷ ps) q none =
     let t = judged_none (is_key q.key && same_class p.key q.key) (same_class p.value q.value) (has_room (p ∷ ps)) none in
-    (kinds_are_same (seen_kind p.key) (seen_kind q.key) (and_parts (is_key q.key) (same_class p.key q.key) t.0).1, kinds_are_same (seen_kind p.value) (seen_kind q.value) t.1)
+    (sym (same_kinds (seen_kind p.key) (seen_kind q.key) (and_parts (is_key q.key) (same_class p.key q.key) t.0).1), sym (same_kinds (seen_kind p.value) (seen_kind q.value) t.1))
 
 have_both : (j k : Kind) (ps qs : List Pair) → HaveKinds j k ps → HaveKinds j k qs → HaveKinds j k (ps ++ qs)
 have_both j k [] qs f h = h

@@ -6,7 +6,7 @@ use Rattle.std.specs.Ordering.{is_eq}
 use Rattle.tall_value.specs.Cells.{Seen}
 use Rattle.tall_value.specs.CellOrder.{cell_order}
 use Rattle.tall_column.specs.Columns.{SeenColumn, class_of_cell, with_cell}
-use Rattle.tall_local.specs.Pairs.{Pair, keys_of, values_of}
+use Rattle.tall_local.specs.Pairs.{Pair, distinct_keys, values_of}
 
 -- a key with the column of its values
 pub record Group : Type 0 where
@@ -29,7 +29,7 @@ values_column class ps key = record { class = class; cells = values_of key ps }
 
 -- the keys in the order of their first adding, each with its values in order
 abbrev pub groups_of : List Pair → List Group
-groups_of ps = map (λ key. record { key = key; values = values_column (class_of_values ps) ps key }) (keys_of ps)
+groups_of ps = map (λ key. record { key = key; values = values_column (class_of_values ps) ps key }) (distinct_keys ps)
 
 -- a cell that is this key: neither is before the other
 abbrev pub is_this_key : Seen → Seen → Bool

@@ -26,7 +26,7 @@ use Rattle.tall_value.specs.FunctionClasses.{summary_classes, reduction_kind, sc
 use Rattle.tall_column.specs.Columns.{SeenColumn, rows_kept}
 use Rattle.tall_column.specs.Tables.{column_named, height_of}
 use Rattle.tall_grammar.specs.declared.expressions.Infix.{Infix}
-use Rattle.tall_grammar.specs.Grammar.{are_distinct}
+use Rattle.tall_value.specs.Names.{are_distinct}
 use Rattle.tall_grammar.specs.Refusals.{line_of}
 use Rattle.tall_grammar.specs.Trees.{Tree, Step, assign_step, add_step, if_step, while_step, for_step, Steps, no_steps, and_step, Arms, no_arms, and_arm, SeenFunction}
 use Rattle.tall_local.specs.declared.functions.LocalFunction.{LocalFunction}

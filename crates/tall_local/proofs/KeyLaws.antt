@@ -1,36 +1,20 @@
 -- Keys are equal where their values are equal.
-use Rattle.std.proofs.Common.{◌≡◌, ℕ, List, [], ◌∷◌, Bool, true, false, refl, ap, sym, ◌∙◌}
-use Rattle.std.proofs.lemmas.Bool.{eqb-true, true≢false}
+use Rattle.std.proofs.Common.{◌≡◌, Bool, true, false, refl, ap, sym, ◌∙◌}
+use Rattle.std.proofs.lemmas.Bool.{true≢false}
 use Rattle.std.proofs.lemmas.Cmp.{tied_itself}
 use Rattle.std.specs.Ordering.{is_eq}
-use Rattle.std.specs.Prelude.{get_or}
 use Rattle.std.specs.declared.cmp.Ordering.{Ordering}
 use Rattle.std.specs.declared.cmp.Ordering.TheVariants.{Less, Equal, Greater}
-use Rattle.tall_value.specs.declared.class.IntKind.{IntKind}
-use Rattle.tall_value.specs.declared.class.IntKind.TheVariants.{Int8, Int16, Int32, Int64, Uint8, Uint16, Uint32, Uint64}
 use Rattle.tall_value.specs.declared.class.Kind.{Kind}
 use Rattle.tall_value.specs.declared.class.Kind.TheVariants.{Integer, Logical, Double, Text}
 use Rattle.tall_value.specs.CellOrder.{cell_order}
 use Rattle.tall_value.specs.Cells.{Seen, seen_kind}
-use Rattle.tall_value.specs.Classes.{place}
+use Rattle.tall_value.proofs.ClassLaws.{same_integers}
 use Rattle.tall_value.proofs.OrderLaws.{cells_total, cells_exact}
 use Rattle.tall_local.specs.Pairs.{Pair, same_kind, same_class, is_key_of}
 
-abbrev kinds : List IntKind
-kinds = Int8 ∷ Int16 ∷ Int32 ∷ Int64 ∷ Uint8 ∷ Uint16 ∷ Uint32 ∷ Uint64 ∷ []
-
-by_place : (k : IntKind) → get_or kinds (place k) Int8 ≡ k
-by_place Int8 = refl
-by_place Int16 = refl
-by_place Int32 = refl
-by_place Int64 = refl
-by_place Uint8 = refl
-by_place Uint16 = refl
-by_place Uint32 = refl
-by_place Uint64 = refl
-
 pub same_kinds : (j k : Kind) → same_kind j k ≡ true → k ≡ j
-same_kinds (Integer i) (Integer k) h = ap Integer (sym (by_place k) ∙ ap (λ n. get_or kinds n Int8) (sym (eqb-true (place i) (place k) h)) ∙ by_place i)
+same_kinds (Integer i) (Integer k) h = ap Integer (sym (same_integers i k h))
 same_kinds (Integer i) Logical h = absurd (true≢false (sym h))
 same_kinds (Integer i) Double h = absurd (true≢false (sym h))
 same_kinds (Integer i) Text h = absurd (true≢false (sym h))

@@ -38,7 +38,7 @@ use Rattle.tall_value.proofs.FunctionLaws.{unary_rows_kind, binary_rows_kind, sc
 use Rattle.tall_value.proofs.GroupLaws.{summary_kind}
 use Rattle.tall_column.specs.Columns.{SeenColumn, rows_kept}
 use Rattle.tall_column.specs.Tables.{column_named, height_of, HasHeight, IsTable}
-use Rattle.tall_grammar.specs.Grammar.{are_distinct}
+use Rattle.tall_value.specs.Names.{are_distinct}
 use Rattle.tall_local.specs.Applications.{Operation, reduce, height, scan, head, tail, distinct, groups, unary, Application, constant, to_one, to_two}
 use Rattle.tall_local.specs.Arguments.{Index, rows_at, all_variables_at}
 use Rattle.tall_local.specs.Memory.{Memory, scalar, column, table, texts, kind_of_column}

@@ -8,7 +8,7 @@ use Rattle.std.specs.Prelude.{◌&&◌, ◌||◌, not, length}
 use Rattle.std.specs.Str.{bytes_eq}
 use Rattle.tall_column.specs.Columns.{SeenColumn}
 use Rattle.tall_column.specs.Tables.{AreApart}
-use Rattle.tall_grammar.specs.Grammar.{are_distinct}
+use Rattle.tall_value.specs.Names.{are_distinct}
 use Rattle.tall_grammar.specs.Lexemes.{is_text}
 use Rattle.tall_local.specs.MemoryFunctions.{paired}
 use Rattle.tall_local.specs.Names.{each_named}

@@ -19,7 +19,7 @@ use Rattle.tall_value.specs.Reductions.{reduced}
 use Rattle.tall_value.specs.Scans.{scanned}
 use Rattle.tall_column.specs.Columns.{SeenColumn}
 use Rattle.tall_column.specs.Tables.{column_named, height_of}
-use Rattle.tall_grammar.specs.Grammar.{are_distinct}
+use Rattle.tall_value.specs.Names.{are_distinct}
 use Rattle.tall_local.specs.Names.{each_named}
 use Rattle.tall_local.specs.Refusals.{Refusal, undefined, bad_class, bad_argument, failed, refused_class, and_then, or_refuse}
 use Rattle.tall_local.specs.Memory.{Memory, scalar, column, table, texts, kind_of_column}

@@ -1,6 +1,5 @@
 -- Names with what they stand for, in the order in which they came.
-use Rattle.std.specs.Prelude.{ℕ, Bool, if◌then◌else◌, List, [], ◌∷◌, Option, None, Some}
-use Rattle.std.specs.List.{list_any}
+use Rattle.std.specs.Prelude.{ℕ, if◌then◌else◌, List, [], ◌∷◌, Option, None, Some}
 use Rattle.std.specs.Str.{bytes_eq}
 
 -- what the first of a name stands for
@@ -22,7 +21,3 @@ names_of (entry ∷ entries) = entry.0 ∷ names_of entries
 abbrev pub each_named : {A B : Type 0} → (A → B) → List (List ℕ × A) → List (List ℕ × B)
 each_named f [] = []
 each_named f (entry ∷ entries) = (entry.0, f entry.1) ∷ each_named f entries
-
--- a name is among these
-abbrev pub is_among : List ℕ → List (List ℕ) → Bool
-is_among name names = list_any (λ other. bytes_eq other name) names

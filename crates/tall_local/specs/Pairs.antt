@@ -100,15 +100,15 @@ abbrev pub keys_after : List Seen → List Pair → List Seen
 keys_after met [] = []
 keys_after met (p ∷ ps) = if list_any (λ key. is_key_of key p) met then keys_after met ps else p.key ∷ keys_after (p.key ∷ met) ps
 
-abbrev pub keys_of : List Pair → List Seen
-keys_of ps = keys_after [] ps
+abbrev pub distinct_keys : List Pair → List Seen
+distinct_keys ps = keys_after [] ps
 
-abbrev pub value_of : Pair → Seen
-value_of p = p.value
+abbrev pub pair_value : Pair → Seen
+pair_value p = p.value
 
 -- the values of a key, in order
 abbrev pub values_of : Seen → List Pair → List Seen
-values_of key ps = map value_of (filter (is_key_of key) ps)
+values_of key ps = map pair_value (filter (is_key_of key) ps)
 
 -- ---- as columns
 
@@ -117,5 +117,5 @@ abbrev pub column_of_cells : List Seen → SeenColumn
 column_of_cells [] = record { class = class.Double; cells = [] }
 column_of_cells (c ∷ cs) = record { class = class_of_cell c; cells = c ∷ cs }
 
-abbrev pub key_of : Pair → Seen
-key_of p = p.key
+abbrev pub pair_key : Pair → Seen
+pair_key p = p.key

@@ -20,6 +20,7 @@ use Rattle.tall_column.specs.Columns.{SeenColumn}
 use Rattle.tall_dense.specs.Rows.{Answers}
 use Rattle.tall_dense.specs.declared.faults.OpFault.{OpFault}
 use Rattle.tall_dense.specs.declared.faults.OpFault.TheVariants as op
+use Rattle.tall_value.proofs.KindLaws.{kind_again}
 use Rattle.tall_local.specs.Memory.{Memory, column}
 use Rattle.tall_local.specs.MemoryOperators.{with_kind, scalar_result, column_result, if_equal_lengths}
 use Rattle.tall_local.specs.Refusals.{Refusal, bad_size, refused_class}
@@ -27,19 +28,6 @@ use Rattle.tall_memory.specs.declared.faults.MemoryFault.{MemoryFault}
 use Rattle.tall_memory.specs.declared.values.MemoryValue.{MemoryValue}
 use Rattle.tall_memory.specs.Columns.{IsFaultBelow, IsOfColumn, beside_kind}
 use Rattle.tall_memory.specs.Values.{Gives}
-
-pub kind_back : (k : Kind) → kind_of (class_of k) ≡ k
-kind_back (Integer Int8) = refl
-kind_back (Integer Int16) = refl
-kind_back (Integer Int32) = refl
-kind_back (Integer Int64) = refl
-kind_back (Integer Uint8) = refl
-kind_back (Integer Uint16) = refl
-kind_back (Integer Uint32) = refl
-kind_back (Integer Uint64) = refl
-kind_back Logical = refl
-kind_back Double = refl
-kind_back Text = refl
 
 abbrev Outcome : Type 0
 Outcome = Result (List (ℕ × Seen)) (ℕ × CellFault)
@@ -164,15 +152,15 @@ scalar_is_given (Err e) class computed r accepted is = refused_classes e class a
 -- ---- beside a scalar
 
 pub beside_class : (op : Binary) (scalar_left : Bool) (c : Seen) (x : SeenColumn) → scalar_class op scalar_left (class_of (seen_kind c)) x.class ≡ class_result (beside_kind op scalar_left c x)
-beside_class op true c x = ap (λ k. class_result (binary_kind op k true (kind_of x.class) false)) (kind_back (seen_kind c))
-beside_class op false c x = ap (λ k. class_result (binary_kind op (kind_of x.class) false k true)) (kind_back (seen_kind c))
+beside_class op true c x = ap (λ k. class_result (binary_kind op k true (kind_of x.class) false)) (kind_again (seen_kind c))
+beside_class op false c x = ap (λ k. class_result (binary_kind op (kind_of x.class) false k true)) (kind_again (seen_kind c))
 
 pub same_if_ok : {A E : Type 0} (r s : Result Class E) (computed : Result SeenColumn A) → r ≡ s → IfOk computed (λ x. r ≡ Ok x.class) → IfOk computed (λ x. s ≡ Ok x.class)
 same_if_ok r s computed same h = subst (λ r. IfOk computed (λ x. r ≡ Ok x.class)) same h
 
 pub of_scalar_class : (op : Unary) (c : Seen) → unary_class op (class_of (seen_kind c)) ≡ class_result (unary_kind op (seen_kind c))
-of_scalar_class op c = ap (λ k. class_result (unary_kind op k)) (kind_back (seen_kind c))
+of_scalar_class op c = ap (λ k. class_result (unary_kind op k)) (kind_again (seen_kind c))
 
 pub of_scalar_classes : (op : Binary) (c d : Seen) → binary_class op (class_of (seen_kind c)) true (class_of (seen_kind d)) true ≡ class_result (binary_kind op (seen_kind c) true (seen_kind d) true)
 of_scalar_classes op c d =
-    ap (λ k. class_result (binary_kind op k true (kind_of (class_of (seen_kind d))) true)) (kind_back (seen_kind c)) ∙ ap (λ k. class_result (binary_kind op (seen_kind c) true k true)) (kind_back (seen_kind d))
+    ap (λ k. class_result (binary_kind op k true (kind_of (class_of (seen_kind d))) true)) (kind_again (seen_kind c)) ∙ ap (λ k. class_result (binary_kind op (seen_kind c) true k true)) (kind_again (seen_kind d))

@@ -3,7 +3,7 @@ use Rattle.std.proofs.Common.{◌≡◌, ℕ, ◌-◌, ◌^◌, true, false, [],
 use Rattle.std.specs.Prelude.{codes}
 use Rattle.tall_outside.specs.Count.{raised, Rose}
 use Rattle.tall_outside.specs.Shelf.{Files, file_in, openings_of, came_after}
-use Rattle.tall_outside.specs.MemShelf.{are_distinct}
+use Rattle.tall_outside.specs.MemShelf.{have_distinct_names}
 
 abbrev files : Files
 files = (codes "a.csv", 49 ∷ []) ∷ (codes "b.csv", []) ∷ (codes "a.csv", 50 ∷ []) ∷ []
@@ -17,10 +17,10 @@ empty_file = refl
 pub missing_file : file_in files (codes "a.cs") ≡ None
 missing_file = refl
 
-pub one_name_twice : are_distinct files ≡ false
+pub one_name_twice : have_distinct_names files ≡ false
 one_name_twice = refl
 
-pub two_names : are_distinct ((codes "a", []) ∷ (codes "b", []) ∷ []) ≡ true
+pub two_names : have_distinct_names ((codes "a", []) ∷ (codes "b", []) ∷ []) ≡ true
 two_names = refl
 
 pub opened_twice : openings_of (codes "a") (codes "a" ∷ codes "b" ∷ codes "a" ∷ []) ≡ 2

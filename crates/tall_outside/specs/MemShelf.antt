@@ -13,9 +13,9 @@ abbrev pub files_in : {Y Z : Type 0} → List (String Y × Vec ℕ Z) → Files
 files_in files = map (λ file. (string_bytes file.0, file.1.items)) files
 
 -- no two files have one name
-abbrev pub are_distinct : Files → Bool
-are_distinct [] = true
-are_distinct (file ∷ files) = is_none (file_in files file.0) && are_distinct files
+abbrev pub have_distinct_names : Files → Bool
+have_distinct_names [] = true
+have_distinct_names (file ∷ files) = is_none (file_in files file.0) && have_distinct_names files
 
 -- what is left of a file after some of its bytes; nothing, where there is no file
 abbrev pub left_in : {Y Z : Type 0} → Option (String Y × Vec ℕ Z) → ℕ → List ℕ

@@ -5,7 +5,7 @@ ghost use Rattle.std.specs.Io.{ReadsAtMost};
 ghost use Rattle.std.specs.Io.KnownBytes.{ReadConsumes};
 ghost use Rattle.tall_outside.specs.Count.{RisesIf};
 ghost use Rattle.tall_outside.specs.Shelf.{Logs, OpenGives, has_failed, is_missing, came_after};
-ghost use Rattle.tall_outside.specs.MemShelf.{are_distinct, files_in, fresh};
+ghost use Rattle.tall_outside.specs.MemShelf.{have_distinct_names, files_in, fresh};
 ghost use Rattle.tall_outside.specs.CalmShelf.{state_of};
 
 use crate::mem_shelf::{left_at, note, place_of};
@@ -27,7 +27,7 @@ pub struct CalmShelf<'f> {
 impl<'f> CalmShelf<'f> {
     /// A shelf of these files, of which none is open. It takes no memory.
     pub fn new(alloc: Global, files: &'f [(String, Vec<u8>)]) -> Result<CalmShelf<'f>, AllocError>
-        requires distinct { IsTrue (are_distinct (files_in files.now)) }
+        requires distinct { IsTrue (have_distinct_names (files_in files.now)) }
         ensures { IsOkAnd result (λ shelf. state_of shelf ≡ fresh (files_in files.now)) }
     {
         Ok(CalmShelf {

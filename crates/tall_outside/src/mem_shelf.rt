@@ -5,7 +5,7 @@ ghost use Rattle.std.specs.Io.{ReadsAtMost};
 ghost use Rattle.std.specs.Io.KnownBytes.{ReadConsumes};
 ghost use Rattle.tall_outside.specs.Count.{raised, RisesIf};
 ghost use Rattle.tall_outside.specs.Shelf.{file_in, openings_of, Logs, OpenGives, has_failed, is_missing, came_after};
-ghost use Rattle.tall_outside.specs.MemShelf.{are_distinct, files_in, file_at, left_in, texts_of, state_of, plan_of, fresh, no_plan, fails_next_open, fails_next_read, FailsIf};
+ghost use Rattle.tall_outside.specs.MemShelf.{have_distinct_names, files_in, file_at, left_in, texts_of, state_of, plan_of, fresh, no_plan, fails_next_open, fails_next_read, FailsIf};
 
 use crate::shelf::{Failed, Opening, Shelf};
 use std::alloc::{AllocError, Global};
@@ -29,7 +29,7 @@ pub struct MemShelf {
 
 /// Whether no two files have one name.
 pub fn has_distinct_names(files: &[(String, Vec<u8>)]) -> bool
-    ensures { result ≡ are_distinct (files_in files.now) }
+    ensures { result ≡ have_distinct_names (files_in files.now) }
 {
     for (i, file) in files.iter().enumerate() {
         if place_of(&files[i + 1..], file.0.as_str()).is_some() {
@@ -66,7 +66,7 @@ pub(crate) fn left_at(files: &[(String, Vec<u8>)], place: Option<usize>, at: usi
 impl MemShelf {
     /// A shelf of these files, of which none is open, with no failure planned. It takes no memory.
     pub fn new(alloc: Global, files: Vec<(String, Vec<u8>)>) -> Result<MemShelf, AllocError>
-        requires distinct { IsTrue (are_distinct (files_in files.items)) }
+        requires distinct { IsTrue (have_distinct_names (files_in files.items)) }
         ensures state { IsOkAnd result (λ shelf. state_of shelf ≡ fresh (files_in files.items)) }
         ensures plan { IsOkAnd result (λ shelf. plan_of shelf ≡ no_plan) }
     {

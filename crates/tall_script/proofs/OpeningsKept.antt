@@ -8,7 +8,7 @@ use Rattle.tall_semantics.specs.Talls.{Tall}
 use Rattle.tall_local.specs.Arguments.{Argument}
 use Rattle.tall_local.specs.Expressions.{Valued, gives, stops, answered}
 use Rattle.tall_local.specs.Functions.{script_function_named}
-use Rattle.tall_local.specs.Names.{is_among}
+use Rattle.tall_value.specs.Names.{has_name}
 use Rattle.tall_local.specs.Refusals.{Refusal}
 use Rattle.tall_local.specs.StateLaws.{state_after, IsKept, calls_none, CallsKeepBut}
 use Rattle.tall_local.specs.declared.functions.ScriptFunction.{ScriptFunction}
@@ -32,7 +32,7 @@ both_allowed file [] more = none_more (times_allowed file more) where
   none_more : (n : ℕ) → n ≡ 0 + n
   none_more n = omega arith
 both_allowed file (o ∷ os) more =
-    let n = if is_among file o.files then o.times else 0 in
+    let n = if has_name o.files file then o.times else 0 in
     let e = both_allowed file os more in
     ap (λ k. n + k) e ∙ sum n (times_allowed file os) (times_allowed file more) where
       sum : (a b c : ℕ) → a + (b + c) ≡ (a + b) + c

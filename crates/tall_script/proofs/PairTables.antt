@@ -16,7 +16,7 @@ use Rattle.tall_value.specs.Columns.{HasKind}
 use Rattle.tall_value.proofs.KindLaws.{kind_again}
 use Rattle.tall_local.specs.CallLaws.{HaveClasses, HaveOneClass}
 use Rattle.tall_local.specs.MemoryLaws.{HasItsClass, CanBeHeld}
-use Rattle.tall_local.specs.Pairs.{Pair, column_of_cells, key_of, value_of}
+use Rattle.tall_local.specs.Pairs.{Pair, column_of_cells, pair_key, pair_value}
 use Rattle.tall_local.specs.StoreLaws.{IsStore}
 use Rattle.tall_local.proofs.KeyLaws.{same_kinds}
 use Rattle.tall_script.specs.MapReduce.{pairs_table}
@@ -24,33 +24,33 @@ use Rattle.tall_script.specs.MapReduce.{pairs_table}
 of_class : (k : Kind) (cs : List Seen) → All (HasKind k) cs → All (HasKind (kind_of (class_of k))) cs
 of_class k cs h = subst (λ j. All (HasKind j) cs) (sym (kind_again k)) h
 
-keys_alike : (p : Pair) (ps : List Pair) → HaveClasses p ps → All (HasKind (seen_kind p.key)) (map key_of ps)
+keys_alike : (p : Pair) (ps : List Pair) → HaveClasses p ps → All (HasKind (seen_kind p.key)) (map pair_key ps)
 keys_alike p [] h = All-nil (HasKind (seen_kind p.key))
-keys_alike p (q ∷ ps) h = All-cons (HasKind (seen_kind p.key)) q.key (map key_of ps) (same_kinds (seen_kind p.key) (seen_kind q.key) h.0) (keys_alike p ps h.2)
+keys_alike p (q ∷ ps) h = All-cons (HasKind (seen_kind p.key)) q.key (map pair_key ps) (same_kinds (seen_kind p.key) (seen_kind q.key) h.0) (keys_alike p ps h.2)
 
-values_alike : (p : Pair) (ps : List Pair) → HaveClasses p ps → All (HasKind (seen_kind p.value)) (map value_of ps)
+values_alike : (p : Pair) (ps : List Pair) → HaveClasses p ps → All (HasKind (seen_kind p.value)) (map pair_value ps)
 values_alike p [] h = All-nil (HasKind (seen_kind p.value))
-values_alike p (q ∷ ps) h = All-cons (HasKind (seen_kind p.value)) q.value (map value_of ps) (same_kinds (seen_kind p.value) (seen_kind q.value) h.1) (values_alike p ps h.2)
+values_alike p (q ∷ ps) h = All-cons (HasKind (seen_kind p.value)) q.value (map pair_value ps) (same_kinds (seen_kind p.value) (seen_kind q.value) h.1) (values_alike p ps h.2)
 
 cells_of_column : (cs : List Seen) → (column_of_cells cs).cells ≡ cs
 cells_of_column [] = refl
 cells_of_column (c ∷ cs) = refl
 
 -- as many keys as values
-one_height : (ps : List Pair) → length (column_of_cells (map value_of ps)).cells ≡ length (column_of_cells (map key_of ps)).cells
+one_height : (ps : List Pair) → length (column_of_cells (map pair_value ps)).cells ≡ length (column_of_cells (map pair_key ps)).cells
 one_height ps =
-    ap (λ (cs : List Seen). length cs) (cells_of_column (map value_of ps)) ∙ length-map ps value_of
-    ∙ sym (ap (λ (cs : List Seen). length cs) (cells_of_column (map key_of ps)) ∙ length-map ps key_of)
+    ap (λ (cs : List Seen). length cs) (cells_of_column (map pair_value ps)) ∙ length-map ps pair_value
+    ∙ sym (ap (λ (cs : List Seen). length cs) (cells_of_column (map pair_key ps)) ∙ length-map ps pair_key)
 
-keys_have : (ps : List Pair) → HaveOneClass ps → HasItsClass (column_of_cells (map key_of ps))
+keys_have : (ps : List Pair) → HaveOneClass ps → HasItsClass (column_of_cells (map pair_key ps))
 keys_have [] h = All-nil (HasKind Double)
 keys_have (p ∷ ps) h =
-    of_class (seen_kind p.key) (map key_of (p ∷ ps)) (All-cons (HasKind (seen_kind p.key)) p.key (map key_of ps) refl (keys_alike p ps h))
+    of_class (seen_kind p.key) (map pair_key (p ∷ ps)) (All-cons (HasKind (seen_kind p.key)) p.key (map pair_key ps) refl (keys_alike p ps h))
 
-values_have : (ps : List Pair) → HaveOneClass ps → HasItsClass (column_of_cells (map value_of ps))
+values_have : (ps : List Pair) → HaveOneClass ps → HasItsClass (column_of_cells (map pair_value ps))
 values_have [] h = All-nil (HasKind Double)
 values_have (p ∷ ps) h =
-    of_class (seen_kind p.value) (map value_of (p ∷ ps)) (All-cons (HasKind (seen_kind p.value)) p.value (map value_of ps) refl (values_alike p ps h))
+    of_class (seen_kind p.value) (map pair_value (p ∷ ps)) (All-cons (HasKind (seen_kind p.value)) p.value (map pair_value ps) refl (values_alike p ps h))
 
 one_name : (x : SeenColumn) → AllPairs AreApart ((codes "Value", x) ∷ [])
 one_name x = AllPairs-cons AreApart (codes "Value", x) [] (All-nil (AreApart (codes "Value", x))) no_names
@@ -59,7 +59,7 @@ pub table_held : (out : List Pair) → IsStore out → CanBeHeld (pairs_table ou
 table_held out h = (
   (keys_have out h.classes, (values_have out h.classes, tt)),
   record {
-    distinct = AllPairs-cons AreApart (codes "Key", column_of_cells (map key_of out)) ((codes "Value", column_of_cells (map value_of out)) ∷ []) (All-cons (AreApart (codes "Key", column_of_cells (map key_of out))) (codes "Value", column_of_cells (map value_of out)) [] refl (All-nil (AreApart (codes "Key", column_of_cells (map key_of out))))) (one_name (column_of_cells (map value_of out)));
+    distinct = AllPairs-cons AreApart (codes "Key", column_of_cells (map pair_key out)) ((codes "Value", column_of_cells (map pair_value out)) ∷ []) (All-cons (AreApart (codes "Key", column_of_cells (map pair_key out))) (codes "Value", column_of_cells (map pair_value out)) [] refl (All-nil (AreApart (codes "Key", column_of_cells (map pair_key out))))) (one_name (column_of_cells (map pair_value out)));
     one_height = (refl, (one_height out, tt));
   },
 )

@@ -20,7 +20,7 @@ use Rattle.tall_local.specs.CallsMade.{with_calls, listing, unlisted}
 use Rattle.tall_local.specs.Expressions.{Valued, gives, stops, go_on, answered, value, arguments}
 use Rattle.tall_local.specs.Lists.{all_of, each_of}
 use Rattle.tall_local.specs.Memory.{Memory}
-use Rattle.tall_local.specs.Names.{is_among}
+use Rattle.tall_value.specs.Names.{has_name}
 use Rattle.tall_local.specs.Refusals.{Refusal, bad_argument, Stop, stop_at}
 use Rattle.tall_local.specs.StateLaws.{state_after, IsKept, CallsKeep}
 use Rattle.tall_local.specs.Values.{in_memory}
@@ -80,7 +80,7 @@ module _ (file : List ℕ) where
 
   none_read : (place : ℕ) (stores : List Store) → times_allowed file (gather_openings place stores []) ≡ 0
   none_read place [] = refl
-  none_read place (d ∷ stores) = either_zero (is_among file d.store.files) (times_allowed file (gather_openings (place + 1) stores [])) (none_read (place + 1) stores) where
+  none_read place (d ∷ stores) = either_zero (has_name d.store.files file) (times_allowed file (gather_openings (place + 1) stores [])) (none_read (place + 1) stores) where
     either_zero : (b : Bool) (n : ℕ) → n ≡ 0 → (if b then 0 else 0) + n ≡ 0
     either_zero true n e = omega (arith, e)
     either_zero false n e = omega (arith, e)

@@ -11,7 +11,7 @@ use Rattle.tall_store.specs.declared.faults.StoreFault.TheVariants.{BadArgument,
 use Rattle.tall_store.specs.declared.format.Format.{Format}
 use Rattle.tall_store.specs.Choices.{chosen_formats, chosen_places}
 use Rattle.tall_store.specs.Names.{variable_names}
-use Rattle.tall_store.specs.Opening.{store_of, opened_variables, opened_first, first_fields, opened_records, opened_file, first_name, opening}
+use Rattle.tall_store.specs.Opening.{opened_store, opened_variables, opened_first, first_fields, opened_records, opened_file, first_name, opening}
 use Rattle.tall_store.specs.Options.{SeenOptions, is_choice, is_delimiter, is_size, is_absent_or, is_nonempty, is_accepted}
 use Rattle.tall_store.specs.Stores.{SeenStore}
 use Rattle.tall_script.specs.SizeLaws.{with_size, opened_in}
@@ -22,7 +22,7 @@ if_opened size false p q r s h k = k
 
 module _ (size : ReadSize) (o : SeenOptions) where
   same_store : (first : Fields) (names : List (List ℕ)) (formats : Option (List Format)) (selected : Option (List ℕ))
-      → store_of (with_size size o) first names formats selected ≡ opened_in size (store_of o first names formats selected)
+      → opened_store (with_size size o) first names formats selected ≡ opened_in size (opened_store o first names formats selected)
   same_store first names (Some formats) (Some selected) = refl
   same_store first names (Some formats) None = refl
   same_store first names None selected = refl

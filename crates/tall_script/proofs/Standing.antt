@@ -121,7 +121,7 @@ tree_stands n o [] h = λ s e. absurd (false≢true e)
 tree_stands n o (x ∷ []) h = h.0.1
 tree_stands n o (x ∷ y ∷ zs) h = λ s e. elim (one_or_other (reads s x.shape.tree) (reads s y.shape.tree) e) [ inl i ↦ h.0.1 s i | inr i ↦ h.1.0.1 s i ]
 
-shaped : (n : ℕ) (o : Op) (xs : List Tall) (x : Outcome) (p : Result (Class × Space) shapes.Refusal) → OutcomeStands n x → AllStand n xs
+shaped : (n : ℕ) (o : Op) (xs : List Tall) (x : Outcome) (p : Result (Class × Space) shapes.ShapeRefusal) → OutcomeStands n x → AllStand n xs
     → OnGiven (TallStands n) (elim (with_shape x (shapes.shaped o (all_shapes xs) p)) [ Ok y ↦ Ok y | Err e ↦ Err (refusal_of e) ])
 shaped n o xs x (Ok p) h k = (h, tree_stands n o xs k)
 shaped n o xs x (Err e) h k = tt

@@ -9,7 +9,7 @@ use Rattle.tall_store.specs.declared.faults.ReadingFault.{ReadingFault}
 use Rattle.tall_store.specs.Blocks.{block_tables}
 use Rattle.tall_local.specs.Refusals.{Stop}
 use Rattle.tall_local.specs.Memory.{Memory, table}
-use Rattle.tall_local.specs.Pairs.{Pair, keys_of, values_of, column_of_cells, key_of, value_of}
+use Rattle.tall_local.specs.Pairs.{Pair, distinct_keys, values_of, column_of_cells, pair_key, pair_value}
 use Rattle.tall_local.specs.Calls.{CallResult, call_map, call_reduce}
 use Rattle.tall_script.specs.ReadingFaults.{stop_of_reading}
 use Rattle.tall_script.specs.States.{Store}
@@ -32,7 +32,7 @@ reduce_phase f pairs (key ∷ keys) out = go_on_with (call_reduce f key (values_
 
 abbrev pub pairs_table : List Pair → Memory
 pairs_table out =
-    table ((codes "Key", column_of_cells (map key_of out)) ∷ (codes "Value", column_of_cells (map value_of out)) ∷ [])
+    table ((codes "Key", column_of_cells (map pair_key out)) ∷ (codes "Value", column_of_cells (map pair_value out)) ∷ [])
 
 abbrev pub reduced_table : Result (List Pair) Stop → Result Memory Stop
 reduced_table (Ok out) = Ok (pairs_table out)
@@ -41,4 +41,4 @@ reduced_table (Err stop) = Err stop
 -- mapreduce(ds, @m, @r)
 unfoldable pub map_reduced : Files → Store → SeenFunction → SeenFunction → Result Memory Stop
 map_reduced files d m r =
-    elim (map_phase d m (block_tables d.store files) []) [ Ok pairs ↦ reduced_table (reduce_phase r pairs (keys_of pairs) []) | Err stop ↦ Err stop ]
+    elim (map_phase d m (block_tables d.store files) []) [ Ok pairs ↦ reduced_table (reduce_phase r pairs (distinct_keys pairs) []) | Err stop ↦ Err stop ]

@@ -38,7 +38,7 @@ TallValue = Value Tall
 
 -- ---- tall values
 
-abbrev pub refusal_of : shapes.Refusal → Refusal
+abbrev pub refusal_of : shapes.ShapeRefusal → Refusal
 refusal_of shapes.mixed_class = mixed_class
 refusal_of shapes.bad_class = bad_class
 refusal_of shapes.incompatible = incompatible

@@ -1,7 +1,7 @@
 -- What a script has so far: its names, its datastores, and how often files may have been opened. `D` stands for a tall column
 -- or a tall scalar.
 use Rattle.std.specs.Prelude.{ℕ, ◌+◌, if◌then◌else◌, List, [], ◌∷◌, ◌++◌}
-use Rattle.tall_local.specs.Names.{is_among}
+use Rattle.tall_value.specs.Names.{has_name}
 use Rattle.tall_local.specs.Values.{Value}
 pub use Rattle.tall_stored.specs.StoredColumns.{Store}
 
@@ -29,7 +29,7 @@ with_openings more s = record s { opened = s.opened ++ more }
 -- how often a file may be opened, of all these
 abbrev pub times_allowed : List ℕ → List Openings → ℕ
 times_allowed file [] = 0
-times_allowed file (o ∷ rest) = (if is_among file o.files then o.times else 0) + times_allowed file rest
+times_allowed file (o ∷ rest) = (if has_name o.files file then o.times else 0) + times_allowed file rest
 
 -- ---- datastores
 

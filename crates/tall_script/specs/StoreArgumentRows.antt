@@ -1,11 +1,13 @@
 -- Options of a datastore by their names and by their absence, by computation.
 use Prim.Native.String.{String}
-use Rattle.std.specs.Prelude.{◌≡◌, refl, pos, true, false, [], ◌∷◌, None, Some, codes, map}
+use Rattle.std.specs.Prelude.{◌≡◌, refl, ℕ, pos, true, false, List, [], ◌∷◌, None, Some, codes, map}
 use Rattle.tall_cut.specs.declared.cutter.ReadSize.TheVariants.{Rows, File}
 use Rattle.tall_store.specs.declared.format.Format.TheVariants.{Int8, Int16, Int32, Int64, Uint8, Uint16, Uint32, Uint64, Double, Text}
 use Rattle.tall_value.specs.Cells.{logical, double, text}
+use Rattle.tall_store.specs.declared.options.OptionName.{OptionName}
+use Rattle.tall_local.specs.Names.{named}
 use Rattle.tall_local.specs.Memory.{Memory, scalar, texts}
-use Rattle.tall_script.specs.StoreArguments.{formats_given, options_given, size_given}
+use Rattle.tall_script.specs.StoreArguments.{formats_given, options, options_given, size_given}
 
 abbrev a_text : String → Memory
 a_text t = scalar (text (codes t))
@@ -45,6 +47,10 @@ each_option : options_given (a_text "a.csv" ∷ a_text "Delimiter" ∷ a_text ";
     })
 unfolding options_given
 each_option = refl
+
+-- each option has its name, and its name is that of no other
+each_name : map (λ (o : List ℕ × OptionName). named options o.0) options ≡ map (λ (o : List ℕ × OptionName). Some o.1) options
+each_name = refl
 
 whole_file : size_given (a_text "file") ≡ Some File
 whole_file = refl

@@ -1,18 +1,20 @@
 -- The options of a call of `tabularTextDatastore`, and the values of a datastore's properties, by the form of the values
 -- in memory that are given. docs/LANGUAGE.md, datastores. What is in range is told by the options themselves.
-use Rattle.std.specs.Prelude.{ℕ, pos, ◌&&◌, ◌==◌, Bool, true, if◌then◌else◌, List, [], ◌∷◌, Option, None, Some, option_map, option_and_then, codes}
+use Rattle.std.specs.Prelude.{ℕ, pos, ◌&&◌, ◌==◌, Bool, true, if◌then◌else◌, List, [], ◌∷◌, map, Option, None, Some, is_some, option_map, option_and_then, codes}
 use Rattle.std.specs.List.{list_all}
 use Rattle.tall_value.specs.Cells.{logical, double}
 use Rattle.tall_cut.specs.declared.cutter.ReadSize.{ReadSize}
 use Rattle.tall_cut.specs.declared.cutter.ReadSize.TheVariants.{Rows, File}
-use Rattle.tall_grammar.specs.Grammar.{are_distinct}
+use Rattle.tall_value.specs.Names.{are_distinct}
 use Rattle.tall_store.specs.declared.format.Format.{Format}
 use Rattle.tall_store.specs.declared.format.Format.TheVariants.{Int8, Int16, Int32, Int64, Uint8, Uint16, Uint32, Uint64, Double, Text}
+use Rattle.tall_store.specs.declared.options.OptionName.{OptionName}
+use Rattle.tall_store.specs.declared.options.OptionName.TheVariants as option
 use Rattle.tall_store.specs.declared.options.Property.{Property}
 use Rattle.tall_store.specs.declared.options.Property.TheVariants as property
 use Rattle.tall_store.specs.Options.{SeenOptions, size_of_rows}
 use Rattle.tall_local.specs.Lists.{all_of}
-use Rattle.tall_local.specs.Names.{named, names_of, is_among}
+use Rattle.tall_local.specs.Names.{named, names_of}
 use Rattle.tall_local.specs.Memory.{Memory, scalar, texts, scalar_in, text_in}
 use Rattle.tall_local.specs.Applications.{text_of, choice_of}
 
@@ -68,30 +70,26 @@ pairs_given [] = Some []
 pairs_given (name ∷ []) = None
 pairs_given (name ∷ v ∷ rest) = with_option (text_of (scalar_in name)) v (pairs_given rest)
 
-abbrev pub delimiter_option : List ℕ
-delimiter_option = codes "Delimiter"
+abbrev pub option_name : OptionName → List ℕ
+option_name option.Delimiter = codes "Delimiter"
+option_name option.ReadSize = codes "ReadSize"
+option_name option.TreatAsMissing = codes "TreatAsMissing"
+option_name option.SelectedVariableNames = codes "SelectedVariableNames"
+option_name option.TextscanFormats = codes "TextscanFormats"
+option_name option.ReadVariableNames = codes "ReadVariableNames"
 
-abbrev pub size_option : List ℕ
-size_option = codes "ReadSize"
+abbrev pub with_its_name : OptionName → List ℕ × OptionName
+with_its_name o = (option_name o, o)
 
-abbrev pub missing_option : List ℕ
-missing_option = codes "TreatAsMissing"
-
-abbrev pub selected_option : List ℕ
-selected_option = codes "SelectedVariableNames"
-
-abbrev pub formats_option : List ℕ
-formats_option = codes "TextscanFormats"
-
-abbrev pub header_option : List ℕ
-header_option = codes "ReadVariableNames"
-
-abbrev pub option_names : List (List ℕ)
-option_names = delimiter_option ∷ size_option ∷ missing_option ∷ selected_option ∷ formats_option ∷ header_option ∷ []
+abbrev pub options : List (List ℕ × OptionName)
+options = map with_its_name (option.Delimiter ∷ option.ReadSize ∷ option.TreatAsMissing ∷ option.SelectedVariableNames ∷ option.TextscanFormats ∷ option.ReadVariableNames ∷ [])
 
 -- each is an option, and stands once
 abbrev pub are_options : List (List ℕ) → Bool
-are_options names = list_all (λ name. is_among name option_names) names && are_distinct names
+are_options names = list_all (λ name. is_some (named options name)) names && are_distinct names
+
+abbrev pub value_given : List (List ℕ × Memory) → OptionName → Option Memory
+value_given given o = named given (option_name o)
 
 -- an option's value, or its default
 abbrev pub option_or : {A : Type 0} → (Memory → Option A) → A → Option Memory → Option A
@@ -112,12 +110,12 @@ options_with files delimiter size missing selected kinds header = None
 abbrev pub options_from : Memory → List (List ℕ × Memory) → Option SeenOptions
 options_from files given =
     options_with (texts_given files)
-    (option_or delimiter_given 44 (named given delimiter_option))
-    (option_or size_given (Rows 20000) (named given size_option))
-    (option_or texts_given [] (named given missing_option))
-    (optional texts_given (named given selected_option))
-    (optional formats_given (named given formats_option))
-    (option_or truth_given true (named given header_option))
+    (option_or delimiter_given 44 (value_given given option.Delimiter))
+    (option_or size_given (Rows 20000) (value_given given option.ReadSize))
+    (option_or texts_given [] (value_given given option.TreatAsMissing))
+    (optional texts_given (value_given given option.SelectedVariableNames))
+    (optional formats_given (value_given given option.TextscanFormats))
+    (option_or truth_given true (value_given given option.ReadVariableNames))
 
 -- the options of a call's arguments; none where they aren't accepted
 unfoldable pub options_given : List Memory → Option SeenOptions
@@ -129,4 +127,4 @@ options_given (files ∷ rest) =
 
 abbrev pub properties : List (List ℕ × Property)
 properties =
-    (size_option, property.ReadSize) ∷ (selected_option, property.SelectedVariableNames) ∷ (formats_option, property.TextscanFormats) ∷ []
+    (option_name option.ReadSize, property.ReadSize) ∷ (option_name option.SelectedVariableNames, property.SelectedVariableNames) ∷ (option_name option.TextscanFormats, property.TextscanFormats) ∷ []

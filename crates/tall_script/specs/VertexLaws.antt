@@ -8,7 +8,7 @@ use Rattle.tall_value.specs.Cells.{Seen}
 use Rattle.tall_semantics.specs.Additions.{MayAdd}
 use Rattle.tall_semantics.specs.Deferred.{Vertex, AllBelow}
 use Rattle.tall_semantics.specs.Faults.{At}
-use Rattle.tall_semantics.specs.Numbered.{AreStored, OfOneStore, never_fails}
+use Rattle.tall_semantics.specs.Numbered.{AreBothStored, OfOneStore, never_fails}
 use Rattle.tall_semantics.specs.Operations.{Op, constant, group, Part, stored, operation}
 
 abbrev pub vertex : At → Op → List ℕ → Vertex
@@ -37,7 +37,7 @@ variable_of at place x = record { at = at; made = stored place x.0 x.1; args = [
 -- what has the number of the call is a variable of a datastore, and the variables of this one have its line; the call itself adds
 -- nothing
 pub record MayStandBeside (at : At) (place : ℕ) (w : Vertex) : Type 0 where
-  pub stored_alone : w.at.number ≡ at.number → (variable : ℕ) (class : Class) → AreStored (stored place variable class) w.made
+  pub stored_alone : w.at.number ≡ at.number → (variable : ℕ) (class : Class) → AreBothStored (stored place variable class) w.made
   pub called : (variable : ℕ) (class : Class) → OfOneStore (stored place variable class) w.made → at ≡ w.at
 
 -- ---- all of them, one after another

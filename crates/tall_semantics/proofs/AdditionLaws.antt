@@ -10,7 +10,7 @@ use Rattle.tall_semantics.specs.Operations.{group, Made, stored, operation}
 use Rattle.tall_semantics.specs.Equality.{method_place}
 use Rattle.tall_semantics.specs.Faults.{At}
 use Rattle.tall_semantics.specs.Deferred.{Vertex, AllBelow, IsOrdered, IsAmong}
-use Rattle.tall_semantics.specs.Numbered.{never_fails, AreStored, OfOneStore, OfOneMethod, MayShare, AreNumbered, number_at}
+use Rattle.tall_semantics.specs.Numbered.{never_fails, AreBothStored, OfOneStore, OfOneMethod, MayShare, AreNumbered, number_at}
 use Rattle.tall_semantics.specs.Additions.{MayAdd, are_stored, of_one_store, of_one_method, may_share, same_at, may_stand_beside, may_stand_beside_all, are_lower, may_add, may_follow}
 use Rattle.tall_semantics.proofs.Basics.{inside}
 use Rattle.tall_semantics.proofs.VariantLaws.{method_is, same_number}
@@ -19,7 +19,7 @@ use Rattle.tall_semantics.proofs.InOrderLaws.{get_left, get_last, old_or_new}
 
 -- ---- which of two stands first doesn't matter
 
-stored_turned : (m n : Made) → AreStored m n → AreStored n m
+stored_turned : (m n : Made) → AreBothStored m n → AreBothStored n m
 stored_turned (stored s v c) (stored t w d) h = tt
 stored_turned (stored s v c) (operation f) h = absurd h
 stored_turned (operation f) n h = absurd h
@@ -130,7 +130,7 @@ decides_if false d p q = (λ h x. absurd (let e : false ≡ true = p.1 x in cc),
 decides_true : (b : Bool) → Decides b (b ≡ true)
 decides_true b = (λ h. h, λ h. h)
 
-stored_decided : (m n : Made) → Decides (are_stored m n) (AreStored m n)
+stored_decided : (m n : Made) → Decides (are_stored m n) (AreBothStored m n)
 stored_decided (stored s v c) (stored t w d) = (λ h. tt, λ h. refl)
 stored_decided (stored s v c) (operation f) = (λ h. absurd (cc), λ h. absurd h)
 stored_decided (operation f) n = (λ h. absurd (cc), λ h. absurd h)

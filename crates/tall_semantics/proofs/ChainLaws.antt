@@ -7,7 +7,7 @@ use Rattle.tall_semantics.specs.Spaces.{has_rows}
 use Rattle.tall_semantics.specs.Shapes.{Shape, level, greatest_chain, greatest_level, place_of, chain_of}
 use Rattle.tall_semantics.specs.Deferred.{Vertex, IsAmong}
 use Rattle.tall_semantics.specs.ShapesInOrder.{made_shape, shape_at, IsMade}
-use Rattle.tall_semantics.specs.Chains.{needs_all_rows, counted, Path, ends, goes}
+use Rattle.tall_semantics.specs.Chains.{needs_all_rows, passes_between, Path, ends, goes}
 use Rattle.tall_semantics.proofs.Basics.{inside}
 use Rattle.tall_semantics.proofs.OriginLaws.{get_before, below_among}
 use Rattle.tall_semantics.proofs.ShapeLaws.{IsOneOf, shape_ok, shaped_is, below_greatest}
@@ -93,10 +93,10 @@ module _ (vs : List Vertex) (made : IsMade vs) where
   no_operand : (i a : ℕ) (v : Vertex) (s b : ℕ) (c : Class) → slice_get vs i ≡ Some v → v.made ≡ stored s b c → IsAmong v.args a → ⊥
   no_operand i a v s b c e q h = subst (λ args. IsAmong args a) (stored_chain i v s b c e q).1 h
 
-  one_step : (i a : ℕ) (v : Vertex) (m : Made) → slice_get vs i ≡ Some v → v.made ≡ m → IsAmong v.args a → counted vs v.made a + (shape_at vs a).chain ≤ (shape_at vs i).chain
+  one_step : (i a : ℕ) (v : Vertex) (m : Made) → slice_get vs i ≡ Some v → v.made ≡ m → IsAmong v.args a → passes_between vs v.made a + (shape_at vs a).chain ≤ (shape_at vs i).chain
   one_step i a v (stored s b c) e q h = absurd (no_operand i a v s b c e q h)
   one_step i a v (operation op) e q h =
-      subst (λ n. counted vs v.made a + (shape_at vs a).chain ≤ n) (sym (operation_chain i v op e q))
+      subst (λ n. passes_between vs v.made a + (shape_at vs a).chain ≤ n) (sym (operation_chain i v op e q))
       (not_less (needs_all_rows v.made) (map (shape_at vs) v.args) (shape_at vs a) (args_one_of (shape_at vs) v.args a h))
 
   pub not_longer : (i n : ℕ) (v : Vertex) → slice_get vs i ≡ Some v → Path vs i n → n ≤ (shape_at vs i).chain
@@ -106,8 +106,8 @@ module _ (vs : List Vertex) (made : IsMade vs) where
       let in_args : IsAmong v.args a = subst (λ (x : Vertex). IsAmong x.args a) same among in
       let b = before k a v e in_args in
       let more : m ≤ (shape_at vs a).chain = not_longer a m b.1.0 b.1.1 p in
-      let one : counted vs v.made a + (shape_at vs a).chain ≤ (shape_at vs k).chain = one_step k a v v.made e refl in_args in
-      subst (λ (x : Vertex). counted vs x.made a + m ≤ (shape_at vs k).chain) (sym same) (omega (arith, more, one))
+      let one : passes_between vs v.made a + (shape_at vs a).chain ≤ (shape_at vs k).chain = one_step k a v v.made e refl in_args in
+      subst (λ (x : Vertex). passes_between vs x.made a + m ≤ (shape_at vs k).chain) (sym same) (omega (arith, more, one))
 
   longest_below : (n i : ℕ) (v : Vertex) (m : Made) → i < n → slice_get vs i ≡ Some v → v.made ≡ m → Path vs i (shape_at vs i).chain
   longest_below zero i v m l e q = absurd (omega (arith, l))

@@ -39,7 +39,7 @@ use Rattle.tall_semantics.specs.Spaces as spaces
 use Rattle.tall_semantics.specs.Equality.{part_place}
 use Rattle.tall_semantics.specs.Faults.{At}
 use Rattle.tall_semantics.specs.Outcomes.{Outcome, rows, scalar, fault, fault_of, rows_in, cells_in, row_by_row, alone, elementwise_one, elementwise_two, part_of_group}
-use Rattle.tall_semantics.specs.Shapes.{Shape, Refusal, allowed, placed, common, masked_class, masked, on_column, part_class, group_class, counted, summarised, summary, place_of}
+use Rattle.tall_semantics.specs.Shapes.{Shape, ShapeRefusal, allowed, placed, common, masked_class, masked, on_column, part_class, group_class, counted, summarised, summary, place_of}
 use Rattle.tall_semantics.specs.Talls.{Tall, Columns, shapes, own_outcome}
 use Rattle.tall_semantics.specs.Deferred.{Vertex, IsMeaning, IsOrdered, IsAmong, fault_in}
 use Rattle.tall_semantics.specs.RowsOfSpaces.{AreColumns, row_numbers}
@@ -65,13 +65,13 @@ class_again class.Logical = refl
 class_again class.Double = refl
 class_again class.Text = refl
 
-abbrev class_ok : Class → Result Class Refusal
+abbrev class_ok : Class → Result Class ShapeRefusal
 class_ok k = Ok k
 
 abbrev kind_ok : Kind → Result Kind ClassFault
 kind_ok k = Ok k
 
-placed_class : (c : Result Class Refusal) (s : Result Space Refusal) (p : Class × Space) → placed c s ≡ place_ok p → c ≡ class_ok p.0
+placed_class : (c : Result Class ShapeRefusal) (s : Result Space ShapeRefusal) (p : Class × Space) → placed c s ≡ place_ok p → c ≡ class_ok p.0
 placed_class (Ok c) (Ok s) p h = ap (λ r. elim r [ Ok q ↦ class_ok q.0 | Err e ↦ class_ok c ]) h
 placed_class (Ok c) (Err e) p h = absurd (cc)
 placed_class (Err e) s p h = absurd (cc)

@@ -10,7 +10,7 @@ use Rattle.tall_value.specs.Classes.{is_same}
 use Rattle.tall_value.specs.Classes as classes
 use Rattle.tall_semantics.proofs.Basics.{both, and_true}
 use Rattle.tall_semantics.specs.Operations.{Op, constant, unary, binary, filter, reduce, scan, head, tail, distinct, group, Tree, column, leaf, one, two}
-use Rattle.tall_semantics.specs.Spaces.{Space, single, rows_of, kept, first, last, groups}
+use Rattle.tall_semantics.specs.Spaces.{Space, single, rows_of, filtered, first, last, groups}
 use Rattle.tall_semantics.specs.Spaces as spaces
 use Rattle.tall_semantics.specs.Equality.{class_place, unary_place, binary_place, reduction_place, scan_place, method_place, part_place, same_bit, same_double, same_cell, same_op, same_tree, same_data, same_space}
 use Rattle.tall_semantics.proofs.VariantLaws.{number_is, same_number, class_is, kind_is, unary_is, binary_is, reduction_is, scan_is, method_is, part_is}
@@ -121,9 +121,9 @@ same_datas None = refl
 space_is : (s t : Space) → same_space s t ≡ true → s ≡ t
 space_is single single h = refl
 space_is (rows_of s) (rows_of t) h = ap rows_of (number_is s t h)
-space_is (kept s m) (kept t n) h =
+space_is (filtered s m) (filtered t n) h =
     let p : (same_space s t ≡ true) × (same_tree m n ≡ true) = both (same_space s t) (same_tree m n) h in
-    ap (λ s. kept s m) (space_is s t p.0) ∙ ap (λ m. kept t m) (tree_is m n p.1)
+    ap (λ s. filtered s m) (space_is s t p.0) ∙ ap (λ m. filtered t m) (tree_is m n p.1)
 space_is (first j s) (first k t) h =
     let p : ((j == k) ≡ true) × (same_space s t ≡ true) = both (j == k) (same_space s t) h in
     ap (λ j. first j s) (number_is j k p.0) ∙ ap (λ s. first k s) (space_is s t p.1)
@@ -140,7 +140,7 @@ space_is s t h = absurd (cc)
 same_spaces : (s : Space) → same_space s s ≡ true
 same_spaces single = refl
 same_spaces (rows_of s) = same_number s
-same_spaces (kept s m) = and_true (same_space s s) (same_tree m m) (same_spaces s) (same_trees m)
+same_spaces (filtered s m) = and_true (same_space s s) (same_tree m m) (same_spaces s) (same_trees m)
 same_spaces (first k s) = and_true (k == k) (same_space s s) (same_number k) (same_spaces s)
 same_spaces (last k s) = and_true (k == k) (same_space s s) (same_number k) (same_spaces s)
 same_spaces (spaces.distinct x) = same_trees x

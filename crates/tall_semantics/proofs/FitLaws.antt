@@ -14,12 +14,12 @@ use Rattle.tall_value.specs.Reductions.{reduced, or_fault}
 use Rattle.tall_value.specs.Scans.{scanned}
 use Rattle.tall_value.specs.Classes.{kind_of}
 use Rattle.tall_semantics.specs.Operations.{Op, constant, unary, binary, filter, reduce, scan, head, tail, distinct, group, Part}
-use Rattle.tall_semantics.specs.Spaces.{Space, single, kept, first, last, groups, is_single}
+use Rattle.tall_semantics.specs.Spaces.{Space, single, filtered, first, last, groups, is_single}
 use Rattle.tall_semantics.specs.Spaces as spaces
 use Rattle.tall_semantics.specs.Equality.{same_space}
 use Rattle.tall_semantics.specs.Faults.{At}
 use Rattle.tall_semantics.specs.Outcomes.{Outcome, rows, scalar, fault, rows_in, cells_in, row_by_row, alone, elementwise_one, elementwise_two, part_of_group, grouped}
-use Rattle.tall_semantics.specs.Shapes.{Shape, Refusal, bad_argument, common, masked, on_column, place_of}
+use Rattle.tall_semantics.specs.Shapes.{Shape, ShapeRefusal, bad_argument, common, masked, on_column, place_of}
 use Rattle.tall_semantics.specs.Talls.{Tall, shapes, own_outcome}
 use Rattle.tall_semantics.specs.RowsOfSpaces.{Fits}
 use Rattle.tall_semantics.proofs.ShapeLaws.{space_ok, place_ok, refused, inside, tested, column_is, placed_is, groups_of}
@@ -88,10 +88,10 @@ common_single single t u h = ap is_single (sym (inside t u h))
 common_single s single u h = ap is_single (sym (inside s u h))
 common_single s t u h = ap is_single (sym (tested (same_space s t) s u h).1)
 
-column_says : (x : Shape) (r : Result (Class × Space) Refusal) (p : Class × Space) → on_column x r ≡ place_ok p → is_single x.space ≡ false
+column_says : (x : Shape) (r : Result (Class × Space) ShapeRefusal) (p : Class × Space) → on_column x r ≡ place_ok p → is_single x.space ≡ false
 column_says x r p h = says (is_single x.space) r p h
   where
-    says : (b : Bool) (r : Result (Class × Space) Refusal) (p : Class × Space) → (if b then Err bad_argument else r) ≡ place_ok p → b ≡ false
+    says : (b : Bool) (r : Result (Class × Space) ShapeRefusal) (p : Class × Space) → (if b then Err bad_argument else r) ≡ place_ok p → b ≡ false
     says true r p h = absurd (cc)
     says false r p h = refl
 
@@ -130,7 +130,7 @@ fits_own at filter [] p h a = absurd (refused p h)
 fits_own at filter (x ∷ []) p h a = absurd (refused p h)
 fits_own at filter (x ∷ m ∷ []) p h a =
     let q = placed_is _ (masked x.shape.space m.shape.space m.shape.tree) p (column_is m.shape _ p (column_is x.shape _ p h)) in
-    ap is_single (sym (tested (same_space x.shape.space m.shape.space) (kept x.shape.space m.shape.tree) p.1 q).1)
+    ap is_single (sym (tested (same_space x.shape.space m.shape.space) (filtered x.shape.space m.shape.tree) p.1 q).1)
 fits_own at filter (x ∷ m ∷ z ∷ xs) p h a = absurd (refused p h)
 fits_own at (reduce r) [] p h a = absurd (refused p h)
 fits_own at (reduce r) (x ∷ []) p h a =

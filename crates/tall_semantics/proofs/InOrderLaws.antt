@@ -6,7 +6,7 @@ use Rattle.std.proofs.lemmas.Option.{slice_get_within}
 use Rattle.std.proofs.Math.Seq.{get_or-append_seam}
 use Rattle.tall_semantics.proofs.Basics.{inside}
 use Rattle.tall_semantics.proofs.OriginLaws.{get_before}
-use Rattle.tall_semantics.specs.Shapes.{Refusal}
+use Rattle.tall_semantics.specs.Shapes.{ShapeRefusal}
 use Rattle.tall_semantics.specs.Talls.{Tall, Columns, made_tall}
 use Rattle.tall_semantics.specs.Deferred.{Vertex, IsMeaning, AllBelow, IsOrdered}
 use Rattle.tall_semantics.specs.InOrder.{blank, or_blank, tall_in, next_tall, talls_from, talls, IsAccepted, IsSound}
@@ -129,7 +129,7 @@ sound_push columns vs v sound below accepted i w e = elim (old_or_new vs v w i e
 
 -- ---- no other solution
 
-abbrev ok : Tall → Result Tall Refusal
+abbrev ok : Tall → Result Tall ShapeRefusal
 ok x = Ok x
 
 result_is : (x y : Tall) → ok x ≡ ok y → x ≡ y

@@ -5,7 +5,7 @@ use Rattle.tall_value.specs.declared.class.Class.{Class}
 use Rattle.tall_semantics.specs.Operations.{Op, stored, operation}
 use Rattle.tall_semantics.specs.Faults.{At, Fault, least_fault}
 use Rattle.tall_semantics.specs.Outcomes.{Outcome, fault_of}
-use Rattle.tall_semantics.specs.Shapes.{Shape, Refusal, place_of, tree_over, shape}
+use Rattle.tall_semantics.specs.Shapes.{Shape, ShapeRefusal, place_of, tree_over, shape}
 use Rattle.tall_semantics.specs.Talls.{Tall, Columns, shapes, outcomes, unless, own_outcome, outcome, with_shape, tall, stored_tall, made_tall}
 use Rattle.tall_semantics.specs.Least.{AtMost}
 use Rattle.tall_semantics.specs.Deferred.{Vertex, IsMeaning, IsAmong, fault_in, least_in}
@@ -13,14 +13,14 @@ use Rattle.tall_semantics.proofs.OrderLaws.{at_most_itself}
 use Rattle.tall_semantics.proofs.OriginLaws.{faults_of_values, tall_outcome, least_all, passed, AtMost_some, none_or_some}
 use Rattle.tall_semantics.proofs.ShapeLaws.{shaped_is}
 
-abbrev pub tall_ok : Tall → Result Tall Refusal
+abbrev pub tall_ok : Tall → Result Tall ShapeRefusal
 tall_ok t = Ok t
 
 pub stored_is : (columns : Columns) (at : At) (s a : ℕ) (c : Class) (xs : List Tall) (t : Tall) → made_tall columns at (stored s a c) xs ≡ tall_ok t → stored_tall s a c (columns s a) ≡ t
 stored_is columns at s a c [] t h = ap (λ r. elim r [ Ok u ↦ u | Err e ↦ t ]) h
 stored_is columns at s a c (x ∷ xs) t h = absurd (cc)
 
-shape_is : (x : Outcome) (r : Result Shape Refusal) (t : Tall) → with_shape x r ≡ tall_ok t → r ≡ Ok t.shape
+shape_is : (x : Outcome) (r : Result Shape ShapeRefusal) (t : Tall) → with_shape x r ≡ tall_ok t → r ≡ Ok t.shape
 shape_is x (Ok s) t h = ap Ok (ap (λ r. elim r [ Ok u ↦ u.shape | Err e ↦ s ]) h)
 shape_is x (Err e) t h = absurd (cc)
 

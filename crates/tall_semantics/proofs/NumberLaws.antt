@@ -14,7 +14,7 @@ use Rattle.tall_semantics.specs.Deferred.{Vertex, IsMeaning, fault_in, least_in,
 use Rattle.tall_semantics.specs.Levels.{IsNumbered}
 use Rattle.tall_semantics.specs.Spaces.{has_rows}
 use Rattle.tall_semantics.specs.Ranks.{any_rows, is_in_pass, rank, rank_at, ranks_in}
-use Rattle.tall_semantics.specs.Numbered.{never_fails, AreStored, OfOneMethod, AreNumbered, AreReadings, number_at, nodes_by, levels_in}
+use Rattle.tall_semantics.specs.Numbered.{never_fails, AreBothStored, OfOneMethod, AreNumbered, AreReadings, number_at, nodes_by, levels_in}
 use Rattle.tall_semantics.proofs.FaultLaws.{own_number, no_own, same_group}
 use Rattle.tall_semantics.proofs.LevelLaws.{compare}
 use Rattle.tall_semantics.proofs.OriginLaws.{own_is}
@@ -27,7 +27,7 @@ own_split : (f : ℕ → Tall) (o : Option Vertex) (i : ℕ) (x : Fault) → own
 own_split f None i x h = absurd (cc)
 own_split f (Some v) i x h = (let p = own_is (least_in f v.args) (fault_in f i) x h in (v, refl, p.0, p.1))
 
-both_stored : (m n : Made) → AreStored m n → (s : ℕ) × (a : ℕ) × (c : Class) × (t : ℕ) × (b : ℕ) × (d : Class) × (m ≡ stored s a c) × (n ≡ stored t b d)
+both_stored : (m n : Made) → AreBothStored m n → (s : ℕ) × (a : ℕ) × (c : Class) × (t : ℕ) × (b : ℕ) × (d : Class) × (m ≡ stored s a c) × (n ≡ stored t b d)
 both_stored (stored s a c) (stored t b d) h = (s, a, c, t, b, d, refl, refl)
 both_stored (stored s a c) (operation f) h = absurd h
 both_stored (operation f) n h = absurd h

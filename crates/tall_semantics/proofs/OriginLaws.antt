@@ -4,7 +4,7 @@ use Rattle.std.proofs.Common.{ap, sym, subst, ◌∙◌, arith, inl, inr}
 use Rattle.tall_semantics.specs.Operations.{Op, Made, stored, operation}
 use Rattle.tall_semantics.specs.Faults.{At, Fault, least_fault}
 use Rattle.tall_semantics.specs.Outcomes.{Outcome, fault_of}
-use Rattle.tall_semantics.specs.Shapes.{Shape, Refusal, shape}
+use Rattle.tall_semantics.specs.Shapes.{Shape, ShapeRefusal, shape}
 use Rattle.tall_semantics.specs.Talls.{Tall, Columns, shapes, outcomes, unless, own_outcome, outcome, with_shape, tall, made_tall}
 use Rattle.tall_semantics.specs.Least.{AtMost, IsLeast}
 use Rattle.tall_semantics.specs.Deferred.{Vertex, IsMeaning, AllBelow, IsOrdered, IsAmong, DependsOn, itself, through, Under, fault_in, least_in, own_fault, own_at, own_in}
@@ -37,7 +37,7 @@ unless_some None y x h = absurd (cc)
 unless_some (Some z) y x h = h
 
 -- the outcome of an accepted operation
-outcome_is : (x : Outcome) (s : Result Shape Refusal) (t : Tall) → with_shape x s ≡ Ok t → t.outcome ≡ x
+outcome_is : (x : Outcome) (s : Result Shape ShapeRefusal) (t : Tall) → with_shape x s ≡ Ok t → t.outcome ≡ x
 outcome_is x (Ok s) t h = sym (ap (λ r. elim r [ Ok v ↦ v.outcome | Err e ↦ x ]) h)
 outcome_is x (Err e) t h = absurd (cc)
 

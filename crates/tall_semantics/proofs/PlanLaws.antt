@@ -408,7 +408,7 @@ stores_below (v ∷ vs) (suc j) w s e h = (let q : s < stores_in vs = stores_bel
 has_store_rows : (u : Space) (s : ℕ) → store_of u ≡ Some s → has_rows u ≡ true
 has_store_rows spaces.single s h = absurd (cc)
 has_store_rows (spaces.rows_of t) s h = refl
-has_store_rows (spaces.kept u m) s h = has_store_rows u s h
+has_store_rows (spaces.filtered u m) s h = has_store_rows u s h
 has_store_rows (spaces.first k u) s h = absurd (cc)
 has_store_rows (spaces.last k u) s h = absurd (cc)
 has_store_rows (spaces.distinct t) s h = absurd (cc)

@@ -6,7 +6,7 @@ use Rattle.std.specs.Bool.{Decides}
 use Rattle.std.specs.List.{list_any}
 use Rattle.tall_value.specs.declared.class.Class.{Class}
 use Rattle.tall_semantics.specs.Operations.{Op, constant, unary, binary, filter, reduce, scan, head, tail, distinct, group, Made, stored, operation, reads}
-use Rattle.tall_semantics.specs.Spaces.{Space, single, rows_of, kept, first, last, groups, is_single, store_of}
+use Rattle.tall_semantics.specs.Spaces.{Space, single, rows_of, filtered, first, last, groups, is_single, store_of}
 use Rattle.tall_semantics.specs.Spaces as spaces
 use Rattle.tall_semantics.specs.Equality.{same_space}
 use Rattle.tall_semantics.specs.Shapes.{Shape, common, masked, on_column, summary, place_of, tree_over, stored_shape}
@@ -92,8 +92,8 @@ store_from s (unary op) (x ∷ y ∷ xs) p h e = absurd (refused p h)
 store_from s filter [] p h e = absurd (refused p h)
 store_from s filter (x ∷ []) p h e = absurd (refused p h)
 store_from s filter (x ∷ m ∷ []) p h e =
-    let q = (tested (same_space x.space m.space) (kept x.space m.tree) p.1 (placed_is _ (masked x.space m.space m.tree) p (column_is m _ p (column_is x _ p h)))).1 in
-    (x, inl refl, by_space s (kept x.space m.tree) p.1 q e)
+    let q = (tested (same_space x.space m.space) (filtered x.space m.tree) p.1 (placed_is _ (masked x.space m.space m.tree) p (column_is m _ p (column_is x _ p h)))).1 in
+    (x, inl refl, by_space s (filtered x.space m.tree) p.1 q e)
 store_from s filter (x ∷ m ∷ z ∷ xs) p h e = absurd (refused p h)
 store_from s (reduce r) [] p h e = absurd (refused p h)
 store_from s (reduce r) (x ∷ []) p h e = absurd (no_store s single p.1 (placing.inside single p.1 (placed_is _ (space_ok single) p h)) refl e)
@@ -153,7 +153,7 @@ stores_agree op [] p h s t x y i j g k = absurd i
 stores_agree op (z ∷ []) p h s t x y i j g k = of_one s t z x y i j g k
 stores_agree (binary op) (z ∷ w ∷ []) p h s t x y i j g k = of_two s t z w x y (common_one z w p.1 (placed_is _ (common z.space w.space) p h)) i j g k
 stores_agree filter (z ∷ m ∷ []) p h s t x y i j g k =
-    let q = (tested (same_space z.space m.space) (kept z.space m.tree) p.1 (placed_is _ (masked z.space m.space m.tree) p (column_is m _ p (column_is z _ p h)))).0 in
+    let q = (tested (same_space z.space m.space) (filtered z.space m.tree) p.1 (placed_is _ (masked z.space m.space m.tree) p (column_is m _ p (column_is z _ p h)))).0 in
     of_two s t z m x y (λ a b c d. one_number a b z.space m.space ((spaces_decided z.space m.space).0 q) c d) i j g k
 stores_agree (group m part) (z ∷ v ∷ []) p h s t x y i j g k =
     let q = group_spaces m part z v p (column_is v (summary m part z v) p (column_is z (on_column v (summary m part z v)) p h)) in

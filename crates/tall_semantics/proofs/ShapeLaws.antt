@@ -5,9 +5,9 @@ use Rattle.tall_value.specs.declared.class.Class.{Class}
 use Rattle.tall_value.specs.declared.functions.Method.{Method}
 use Rattle.tall_value.specs.declared.functions.Method.TheVariants.{Count, Sum, SumNative, Min, Max, Nnz, Nummissing}
 use Rattle.tall_semantics.specs.Operations.{Op, constant, unary, binary, filter, reduce, scan, head, tail, distinct, group, Part, keys, counts, Tree}
-use Rattle.tall_semantics.specs.Spaces.{Space, single, kept, groups, is_single, has_rows}
+use Rattle.tall_semantics.specs.Spaces.{Space, single, filtered, groups, is_single, has_rows}
 use Rattle.tall_semantics.specs.Equality.{same_space}
-use Rattle.tall_semantics.specs.Shapes.{Shape, Refusal, incompatible, bad_argument, level, greatest_chain, greatest_level, placed, common, masked, on_column, counted, group_class, summarised, summary, place_of, chain_of, tree_over, shaped, shape}
+use Rattle.tall_semantics.specs.Shapes.{Shape, ShapeRefusal, incompatible, bad_argument, level, greatest_chain, greatest_level, placed, common, masked, on_column, counted, group_class, summarised, summary, place_of, chain_of, tree_over, shaped, shape}
 use Rattle.tall_semantics.proofs.EqualityLaws.{spaces_decided}
 
 -- x is one of the shapes
@@ -31,13 +31,13 @@ below_chains (y ∷ ys) x h = elim h [
 
 -- ---- what an accepted space is
 
-abbrev pub space_ok : Space → Result Space Refusal
+abbrev pub space_ok : Space → Result Space ShapeRefusal
 space_ok s = Ok s
 
-abbrev refusal : Result (Class × Space) Refusal
+abbrev refusal : Result (Class × Space) ShapeRefusal
 refusal = Err bad_argument
 
-abbrev pub place_ok : Class × Space → Result (Class × Space) Refusal
+abbrev pub place_ok : Class × Space → Result (Class × Space) ShapeRefusal
 place_ok p = Ok p
 
 pub inside : (s u : Space) → space_ok s ≡ space_ok u → s ≡ u
@@ -47,14 +47,14 @@ pub tested : (b : Bool) (s u : Space) → (if b then space_ok s else Err incompa
 tested true s u h = (refl, inside s u h)
 tested false s u h = absurd (cc)
 
-untested : (b : Bool) (r : Result (Class × Space) Refusal) (p : Class × Space) → (if b then Err bad_argument else r) ≡ place_ok p → r ≡ place_ok p
+untested : (b : Bool) (r : Result (Class × Space) ShapeRefusal) (p : Class × Space) → (if b then Err bad_argument else r) ≡ place_ok p → r ≡ place_ok p
 untested true r p h = absurd (cc)
 untested false r p h = h
 
-pub column_is : (x : Shape) (r : Result (Class × Space) Refusal) (p : Class × Space) → on_column x r ≡ place_ok p → r ≡ place_ok p
+pub column_is : (x : Shape) (r : Result (Class × Space) ShapeRefusal) (p : Class × Space) → on_column x r ≡ place_ok p → r ≡ place_ok p
 column_is x r p h = untested (is_single x.space) r p h
 
-pub placed_is : (c : Result Class Refusal) (s : Result Space Refusal) (p : Class × Space) → placed c s ≡ place_ok p → s ≡ space_ok p.1
+pub placed_is : (c : Result Class ShapeRefusal) (s : Result Space ShapeRefusal) (p : Class × Space) → placed c s ≡ place_ok p → s ≡ space_ok p.1
 placed_is (Ok c) (Ok s) p h = ap (λ r. elim r [ Ok q ↦ space_ok q.1 | Err e ↦ space_ok s ]) h
 placed_is (Ok c) (Err e) p h = absurd (cc)
 placed_is (Err e) s p h = absurd (cc)
@@ -74,8 +74,8 @@ common_keeps s t u h =
 
 masked_keeps : (s t u : Space) (m : Tree) → masked s t m ≡ space_ok u → Keeps s u × Keeps t u
 masked_keeps s t u m h =
-    let p : (same_space s t ≡ true) × (kept s m ≡ u) = tested (same_space s t) (kept s m) u h in
-    (λ e. as_is (kept s m) u p.1 e, λ e. as_is (kept s m) u p.1 (as_is t s (sym ((spaces_decided s t).0 p.0)) e))
+    let p : (same_space s t ≡ true) × (filtered s m ≡ u) = tested (same_space s t) (filtered s m) u h in
+    (λ e. as_is (filtered s m) u p.1 e, λ e. as_is (filtered s m) u p.1 (as_is t s (sym ((spaces_decided s t).0 p.0)) e))
 
 -- ---- levels
 
@@ -121,11 +121,11 @@ fits (tail k) xs p h x i = raise (has_rows p.1) (level x) (greatest_level xs) (b
 fits distinct xs p h x i = raise (has_rows p.1) (level x) (greatest_level xs) (below_greatest xs x i)
 fits (group m part) xs p h x i = raise (has_rows p.1) (level x) (greatest_level xs) (below_greatest xs x i)
 
-abbrev pub shape_ok : Shape → Result Shape Refusal
+abbrev pub shape_ok : Shape → Result Shape ShapeRefusal
 shape_ok s = Ok s
 
 -- what an accepted shape is
-pub shaped_is : (op : Op) (xs : List Shape) (r : Result (Class × Space) Refusal) (s : Shape) → shaped op xs r ≡ shape_ok s → (p : Class × Space) × (r ≡ place_ok p) × (record { class = p.0; space = p.1; tree = tree_over op xs; chain = chain_of op xs } ≡ s)
+pub shaped_is : (op : Op) (xs : List Shape) (r : Result (Class × Space) ShapeRefusal) (s : Shape) → shaped op xs r ≡ shape_ok s → (p : Class × Space) × (r ≡ place_ok p) × (record { class = p.0; space = p.1; tree = tree_over op xs; chain = chain_of op xs } ≡ s)
 shaped_is op xs (Ok p) s h = (p, refl, ap (λ r. elim r [ Ok t ↦ t | Err e ↦ s ]) h)
 shaped_is op xs (Err e) s h = absurd (cc)
 

@@ -6,7 +6,7 @@ use Rattle.tall_semantics.specs.Operations.{Op, constant, unary, binary, filter,
 use Rattle.tall_semantics.specs.Spaces.{has_rows}
 use Rattle.tall_semantics.specs.Faults.{At}
 use Rattle.tall_semantics.specs.Outcomes.{Outcome}
-use Rattle.tall_semantics.specs.Shapes.{Shape, Refusal, level, greatest_chain, greatest_level, place_of, chain_of, shape}
+use Rattle.tall_semantics.specs.Shapes.{Shape, ShapeRefusal, level, greatest_chain, greatest_level, place_of, chain_of, shape}
 use Rattle.tall_semantics.specs.Talls.{Tall, Columns, shapes, outcome, with_shape, tall, stored_tall, made_tall}
 use Rattle.tall_semantics.specs.Deferred.{Vertex, IsMeaning, AllBelow, IsOrdered}
 use Rattle.tall_semantics.specs.InOrder.{blank, or_blank, tall_in, next_tall, talls_from, talls, IsAccepted, IsSound}
@@ -22,7 +22,7 @@ none s v = blank.outcome
 
 -- ---- one vertex
 
-shaped_tall : (x : Outcome) (r : Result Shape Refusal) → (or_blank (with_shape x r)).shape ≡ or_blank_shape r
+shaped_tall : (x : Outcome) (r : Result Shape ShapeRefusal) → (or_blank (with_shape x r)).shape ≡ or_blank_shape r
 shaped_tall x (Ok s) = refl
 shaped_tall x (Err e) = refl
 
@@ -67,11 +67,11 @@ args_shapes columns vs args = shapes_there (talls columns vs) args ∙ ap (λ ss
 
 -- ---- accepted exactly where it can be made
 
-shape_of_tall : (x : Outcome) (r : Result Shape Refusal) (t : Tall) → with_shape x r ≡ tall_ok t → r ≡ shape_ok t.shape
+shape_of_tall : (x : Outcome) (r : Result Shape ShapeRefusal) (t : Tall) → with_shape x r ≡ tall_ok t → r ≡ shape_ok t.shape
 shape_of_tall x (Ok s) t h = ap shape_ok (ap (λ r. elim r [ Ok u ↦ u.shape | Err e ↦ s ]) h)
 shape_of_tall x (Err e) t h = absurd (cc)
 
-tall_of_shape : (x : Outcome) (r : Result Shape Refusal) (s : Shape) → r ≡ shape_ok s → (t : Tall) × (with_shape x r ≡ tall_ok t)
+tall_of_shape : (x : Outcome) (r : Result Shape ShapeRefusal) (s : Shape) → r ≡ shape_ok s → (t : Tall) × (with_shape x r ≡ tall_ok t)
 tall_of_shape x (Ok u) s h = (record { shape = u; outcome = x }, refl)
 tall_of_shape x (Err e) s h = absurd (cc)
 

@@ -22,12 +22,12 @@ use Rattle.tall_value.specs.Reductions.{reduced, or_fault}
 use Rattle.tall_value.specs.Scans.{scanned}
 use Rattle.tall_value.specs.Classes.{kind_of}
 use Rattle.tall_semantics.specs.Operations.{Op, constant, unary, binary, filter, reduce, scan, head, tail, distinct, group, Part, keys, counts, values, Made, stored, operation}
-use Rattle.tall_semantics.specs.Spaces.{Space, single, rows_of, kept, first, last, groups, is_single}
+use Rattle.tall_semantics.specs.Spaces.{Space, single, rows_of, filtered, first, last, groups, is_single}
 use Rattle.tall_semantics.specs.Spaces as spaces
 use Rattle.tall_semantics.specs.Equality.{part_place, same_space}
 use Rattle.tall_semantics.specs.Faults.{At, Fault, least_fault}
 use Rattle.tall_semantics.specs.Outcomes.{Outcome, rows, scalar, fault, fault_of, rows_in, cells_in, row_by_row, alone, elementwise_one, elementwise_two, part_of_group, grouped}
-use Rattle.tall_semantics.specs.Shapes.{Shape, Refusal, bad_argument, common, masked, on_column, place_of, tree_over, shape}
+use Rattle.tall_semantics.specs.Shapes.{Shape, ShapeRefusal, bad_argument, common, masked, on_column, place_of, tree_over, shape}
 use Rattle.tall_semantics.specs.Shapes as placing
 use Rattle.tall_semantics.specs.Talls.{Tall, Columns, shapes, outcomes, unless, own_outcome, outcome, with_shape, tall, stored_tall}
 use Rattle.tall_semantics.specs.Deferred.{Vertex, IsMeaning, IsOrdered, IsAmong, fault_in}
@@ -46,7 +46,7 @@ unless_is : (c : Option Fault) (x : Outcome) → c ≡ None → unless c x ≡ x
 unless_is None x h = refl
 unless_is (Some f) x h = absurd (cc)
 
-with_is : (x : Outcome) (r : Result Shape Refusal) (s : Shape) → r ≡ shape_ok s → with_shape x r ≡ tall_ok (record { shape = s; outcome = x })
+with_is : (x : Outcome) (r : Result Shape ShapeRefusal) (s : Shape) → r ≡ shape_ok s → with_shape x r ≡ tall_ok (record { shape = s; outcome = x })
 with_is x r s h = ap (with_shape x) h
 
 -- an accepted operation over operands without a fault is the same at any other expression, where it has no fault itself
@@ -215,7 +215,7 @@ module _ (columns : Columns) (of_stores : ℕ → List ℕ) where
       kept_numbers (rows_in x.outcome) (cells_in m.outcome)
       ∙ (ap (λ ns. filters.kept ns (cells_in m.outcome)) a.0.num
       ∙ (ap (λ (t : Tall). filters.kept (row_numbers columns of_stores x.shape.space) (cells_in t.outcome)) (sym a.1.0.told)
-      ∙ ap (row_numbers columns of_stores) (tested (same_space x.shape.space m.shape.space) (kept x.shape.space m.shape.tree) p.1 q).1))
+      ∙ ap (row_numbers columns of_stores) (tested (same_space x.shape.space m.shape.space) (filtered x.shape.space m.shape.tree) p.1 q).1))
   own_numbers at filter (x ∷ m ∷ z ∷ xs) p h a n = absurd (refused p h)
   own_numbers at (reduce r) [] p h a n = absurd (refused p h)
   own_numbers at (reduce r) (x ∷ []) p h a n =

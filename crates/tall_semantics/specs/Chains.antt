@@ -17,10 +17,10 @@ needs_all_rows (operation (group m part)) = true
 needs_all_rows made = false
 
 -- one where the operation needs all rows and the operand's rows are a datastore's
-abbrev pub counted : List Vertex → Made → (operand : ℕ) → ℕ
-counted vs made a = if needs_all_rows made && has_rows (shape_at vs a).space then 1 else 0
+abbrev pub passes_between : List Vertex → Made → (operand : ℕ) → ℕ
+passes_between vs made a = if needs_all_rows made && has_rows (shape_at vs a).space then 1 else 0
 
 -- a path from the value down, with so many of these operations
 pub data Path (vs : List Vertex) : ℕ → ℕ → Type 0 where
   ends : (i : ℕ) → Path vs i 0
-  goes : (i a n : ℕ) (v : Vertex) → slice_get vs i ≡ Some v → IsAmong v.args a → Path vs a n → Path vs i (counted vs v.made a + n)
+  goes : (i a n : ℕ) (v : Vertex) → slice_get vs i ≡ Some v → IsAmong v.args a → Path vs a n → Path vs i (passes_between vs v.made a + n)

@@ -17,7 +17,7 @@ use Rattle.tall_value.specs.declared.operators.Unary.TheVariants.{Neg, Plus, Abs
 use Rattle.tall_value.specs.Cells.{Seen, whole, logical, double, text}
 use Rattle.tall_value.specs.Classes.{is_same}
 use Rattle.tall_semantics.specs.Operations.{Op, constant, unary, binary, filter, reduce, scan, head, tail, distinct, group, Part, keys, counts, values, Tree, column, leaf, one, two}
-use Rattle.tall_semantics.specs.Spaces.{Space, single, rows_of, kept, first, last, groups}
+use Rattle.tall_semantics.specs.Spaces.{Space, single, rows_of, filtered, first, last, groups}
 use Rattle.tall_semantics.specs.Spaces as spaces
 
 -- ---- the place of each variant among those of its type
@@ -154,7 +154,7 @@ same_data x y = false
 abbrev pub same_space : Space → Space → Bool
 same_space single single = true
 same_space (rows_of s) (rows_of t) = s == t
-same_space (kept s m) (kept t n) = same_space s t && same_tree m n
+same_space (filtered s m) (filtered t n) = same_space s t && same_tree m n
 same_space (first j s) (first k t) = j == k && same_space s t
 same_space (last j s) (last k t) = j == k && same_space s t
 same_space (spaces.distinct x) (spaces.distinct y) = same_tree x y

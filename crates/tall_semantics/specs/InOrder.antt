@@ -4,7 +4,7 @@
 use Rattle.std.specs.Prelude.{◌≡◌, ℕ, Some, Result, Ok, Err, List, [], ◌∷◌, ◌++◌, map, get_or, slice_get}
 use Rattle.tall_value.specs.declared.class.Class.TheVariants.{Text}
 use Rattle.tall_semantics.specs.Outcomes.{rows}
-use Rattle.tall_semantics.specs.Shapes.{Refusal}
+use Rattle.tall_semantics.specs.Shapes.{ShapeRefusal}
 use Rattle.tall_semantics.specs.Talls.{Tall, Columns, stored_tall, made_tall}
 use Rattle.tall_semantics.specs.Deferred.{Vertex, AllBelow}
 
@@ -12,7 +12,7 @@ use Rattle.tall_semantics.specs.Deferred.{Vertex, AllBelow}
 abbrev pub blank : Tall
 blank = stored_tall 0 0 Text (rows [])
 
-abbrev pub or_blank : Result Tall Refusal → Tall
+abbrev pub or_blank : Result Tall ShapeRefusal → Tall
 or_blank (Ok x) = x
 or_blank (Err e) = blank
 

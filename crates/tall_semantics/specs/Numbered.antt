@@ -19,9 +19,9 @@ never_fails (operation (tail k)) = true
 never_fails (operation distinct) = true
 never_fails made = false
 
-abbrev pub AreStored : Made → Made → Type 0
-AreStored (stored s v c) (stored t w d) = Unit {0}
-AreStored made other = ⊥
+abbrev pub AreBothStored : Made → Made → Type 0
+AreBothStored (stored s v c) (stored t w d) = Unit {0}
+AreBothStored made other = ⊥
 
 abbrev pub OfOneStore : Made → Made → Type 0
 OfOneStore (stored s v c) (stored t w d) = s ≡ t
@@ -34,7 +34,7 @@ OfOneMethod made other = ⊥
 -- two vertices of one number are variables of datastores, or columns of one `groupsummary`, or one of them never fails
 abbrev pub MayShare : Vertex → Vertex → Type 0
 MayShare v w =
-    AreStored v.made w.made
+    AreBothStored v.made w.made
     ⊎ ((OfOneMethod v.made w.made × (v.args ≡ w.args) × (v.at.line ≡ w.at.line))
     ⊎ ((never_fails v.made ≡ true) ⊎ (never_fails w.made ≡ true)))
 

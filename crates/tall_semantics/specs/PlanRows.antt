@@ -1,7 +1,7 @@
 -- Worked plans over a list of vertices, what is read for its values, and whose rows they have.
 use Rattle.std.specs.Prelude.{◌≡◌, refl, ℕ, false, true, None, Some, List, [], ◌∷◌, map}
 use Rattle.tall_semantics.specs.Operations.{reads}
-use Rattle.tall_semantics.specs.Spaces.{rows_of, kept, first, store_of}
+use Rattle.tall_semantics.specs.Spaces.{rows_of, filtered, first, store_of}
 use Rattle.tall_semantics.specs.Passes.{Pass, passes_at, passes_up_to}
 use Rattle.tall_semantics.specs.ShapesInOrder.{shapes_from, shape_at}
 use Rattle.tall_semantics.specs.Openings.{share}
@@ -21,7 +21,7 @@ constant_reads_none : map (λ s. reads s (shape_at running 2).tree) (0 ∷ 1 ∷
 unfolding shapes_from
 constant_reads_none = refl
 
-rows_of_a_filter : store_of (kept (rows_of 3) (shape_at running 3).tree) ≡ Some 3
+rows_of_a_filter : store_of (filtered (rows_of 3) (shape_at running 3).tree) ≡ Some 3
 rows_of_a_filter = refl
 
 rows_of_a_head : store_of (first 8 (rows_of 3)) ≡ None
@@ -59,7 +59,7 @@ no_pass : plan_of running (2 ∷ []) ≡ []
 unfolding shapes_from needed_below passes_at passes_up_to
 no_pass = refl
 
--- the roots with rows are kept at their level
+-- the roots with rows are filtered at their level
 kept_columns : map (collected running (0 ∷ 12 ∷ 13 ∷ 9 ∷ []) 0) (1 ∷ 2 ∷ 3 ∷ []) ≡ (0 ∷ []) ∷ [] ∷ (12 ∷ []) ∷ []
 unfolding shapes_from needed_below
 kept_columns = refl

@@ -8,7 +8,7 @@ use Rattle.tall_value.specs.Distinct as values
 use Rattle.tall_value.specs.Filters as filters
 use Rattle.tall_value.specs.Groups.{group_keys}
 use Rattle.tall_semantics.specs.Operations.{Tree, column, leaf, one, two, stored}
-use Rattle.tall_semantics.specs.Spaces.{Space, single, rows_of, kept, first, last, distinct, groups, is_single}
+use Rattle.tall_semantics.specs.Spaces.{Space, single, rows_of, filtered, first, last, distinct, groups, is_single}
 use Rattle.tall_semantics.specs.Faults.{At}
 use Rattle.tall_semantics.specs.Outcomes.{Outcome, rows, scalar, fault, fault_of, rows_in, cells_in}
 use Rattle.tall_semantics.specs.Shapes.{Shape}
@@ -35,7 +35,7 @@ numbers_in x = map (λ (r : ℕ × Seen). r.0) (rows_in x)
 abbrev pub row_numbers : Columns → (of_stores : ℕ → List ℕ) → Space → List ℕ
 row_numbers columns of_stores single = 1 ∷ []
 row_numbers columns of_stores (rows_of s) = of_stores s
-row_numbers columns of_stores (kept s mask) = filters.kept (row_numbers columns of_stores s) (cells_in (tree_tall columns mask).outcome)
+row_numbers columns of_stores (filtered s mask) = filters.kept (row_numbers columns of_stores s) (cells_in (tree_tall columns mask).outcome)
 row_numbers columns of_stores (first k s) = take k (row_numbers columns of_stores s)
 row_numbers columns of_stores (last k s) = let ns = row_numbers columns of_stores s in drop (length ns - k) ns
 row_numbers columns of_stores (distinct x) = numbers_in (rows (values.distinct_rows (cells_in (tree_tall columns x).outcome)))

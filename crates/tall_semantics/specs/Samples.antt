@@ -10,7 +10,7 @@ use Rattle.tall_value.specs.Columns.{numbered}
 use Rattle.tall_semantics.specs.Operations.{Op, constant}
 use Rattle.tall_semantics.specs.Faults.{At}
 use Rattle.tall_semantics.specs.Outcomes.{Outcome, rows}
-use Rattle.tall_semantics.specs.Shapes.{Shape, Refusal}
+use Rattle.tall_semantics.specs.Shapes.{Shape, ShapeRefusal}
 use Rattle.tall_semantics.specs.Talls.{Tall, tall, stored_tall}
 
 -- the expression with this number, on a line
@@ -40,27 +40,27 @@ abbrev pub double_column : (v : ℕ) → List (Option ℤ) → Tall
 double_column v ds = column_of v class.Double (doubles ds)
 
 -- an accepted value, for rows with several operations; what is refused is no column of any datastore
-abbrev pub accepted : Result Tall Refusal → Tall
+abbrev pub accepted : Result Tall ShapeRefusal → Tall
 accepted (Ok x) = x
 accepted (Err e) = stored_tall 999 0 class.Text (rows [])
 
-abbrev pub outcome_of : Result Tall Refusal → Result Outcome Refusal
+abbrev pub outcome_of : Result Tall ShapeRefusal → Result Outcome ShapeRefusal
 outcome_of (Ok x) = Ok x.outcome
 outcome_of (Err e) = Err e
 
-abbrev pub shape_of : Result Tall Refusal → Result Shape Refusal
+abbrev pub shape_of : Result Tall ShapeRefusal → Result Shape ShapeRefusal
 shape_of (Ok x) = Ok x.shape
 shape_of (Err e) = Err e
 
-abbrev pub class_in : Result Tall Refusal → Result Class Refusal
+abbrev pub class_in : Result Tall ShapeRefusal → Result Class ShapeRefusal
 class_in (Ok x) = Ok x.shape.class
 class_in (Err e) = Err e
 
 -- the operation of expression 4, on line 3
-abbrev pub of_line : Op → List Tall → Result Tall Refusal
+abbrev pub of_line : Op → List Tall → Result Tall ShapeRefusal
 of_line op xs = tall (at 4 3) op xs
 
-abbrev pub gives : List Seen → Result Outcome Refusal
+abbrev pub gives : List Seen → Result Outcome ShapeRefusal
 gives cs = Ok (rows (numbered 1 cs))
 
 -- a scalar of the script

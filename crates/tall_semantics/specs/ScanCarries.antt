@@ -10,11 +10,7 @@ use Rattle.tall_value.specs.declared.functions.Scan.TheVariants.{CumSum, CumMin,
 use Rattle.tall_value.specs.Cells.{Seen, whole, amount}
 use Rattle.tall_value.specs.Classes.{least, greatest}
 use Rattle.tall_value.specs.Groups.{or_nan}
-use Rattle.tall_value.specs.Reductions.{present, exact_total, lesser, greater, folded}
-
-abbrev pub or_cell : Seen → Option Seen → Seen
-or_cell c None = c
-or_cell c (Some d) = d
+use Rattle.tall_value.specs.Reductions.{or_cell, present, exact_total, lesser, greater, folded}
 
 -- the fold of some rows of a column of a kind; over no rows the cell that changes nothing. There is none where a sum of
 -- doubles is above 2^53 in magnitude

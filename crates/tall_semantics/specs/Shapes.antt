@@ -14,15 +14,15 @@ use Rattle.tall_value.specs.Classes.{class_of, kind_of}
 use Rattle.tall_value.specs.ClassTables.{unary_class, binary_class}
 use Rattle.tall_value.specs.FunctionClasses.{logical_kind, reduction_class, scan_class, summary_classes}
 use Rattle.tall_semantics.specs.Operations.{Op, constant, unary, binary, filter, reduce, scan, head, tail, distinct, group, Part, keys, counts, Tree, column, leaf, one, two}
-use Rattle.tall_semantics.specs.Spaces.{Space, single, rows_of, kept, first, last, groups, is_single, has_rows}
+use Rattle.tall_semantics.specs.Spaces.{Space, single, rows_of, filtered, first, last, groups, is_single, has_rows}
 use Rattle.tall_semantics.specs.Spaces as spaces
 use Rattle.tall_semantics.specs.Equality.{part_place, same_space}
 
-pub data Refusal : Type 0 where
-  mixed_class : Refusal
-  bad_class : Refusal
-  incompatible : Refusal
-  bad_argument : Refusal
+pub data ShapeRefusal : Type 0 where
+  mixed_class : ShapeRefusal
+  bad_class : ShapeRefusal
+  incompatible : ShapeRefusal
+  bad_argument : ShapeRefusal
 
 -- `chain` is the number of passes over datastores that must be done before a pass that computes the value
 pub record Shape : Type 0 where
@@ -45,19 +45,19 @@ greatest_level (x ∷ xs) = max (level x) (greatest_level xs)
 
 -- ---- refusals
 
-abbrev pub allowed : Result Class ClassFault → Result Class Refusal
+abbrev pub allowed : Result Class ClassFault → Result Class ShapeRefusal
 allowed (Ok c) = Ok c
 allowed (Err MixedClass) = Err mixed_class
 allowed (Err BadClass) = Err bad_class
 
 -- the class is looked at before the space
-abbrev pub placed : Result Class Refusal → Result Space Refusal → Result (Class × Space) Refusal
+abbrev pub placed : Result Class ShapeRefusal → Result Space ShapeRefusal → Result (Class × Space) ShapeRefusal
 placed (Ok c) (Ok s) = Ok (c, s)
 placed (Ok c) (Err e) = Err e
 placed (Err e) s = Err e
 
 -- a scalar meets each row; two columns need equal spaces
-abbrev pub common : Space → Space → Result Space Refusal
+abbrev pub common : Space → Space → Result Space ShapeRefusal
 common single t = Ok t
 common s single = Ok s
 common s t = if same_space s t then Ok s else Err incompatible
@@ -67,14 +67,14 @@ abbrev pub masked_class : Class → Result Kind ClassFault → Result Class Clas
 masked_class c (Ok k) = Ok c
 masked_class c (Err e) = Err e
 
-abbrev pub masked : Space → Space → Tree → Result Space Refusal
-masked s t mask = if same_space s t then Ok (kept s mask) else Err incompatible
+abbrev pub masked : Space → Space → Tree → Result Space ShapeRefusal
+masked s t mask = if same_space s t then Ok (filtered s mask) else Err incompatible
 
 -- the key and the data of `groupsummary` are columns of one table
-abbrev pub summarised : Method → Shape → Shape → Result Space Refusal
+abbrev pub summarised : Method → Shape → Shape → Result Space ShapeRefusal
 summarised m g v = if same_space g.space v.space then Ok (groups m g.tree (Some v.tree)) else Err incompatible
 
-abbrev pub on_column : Shape → Result (Class × Space) Refusal → Result (Class × Space) Refusal
+abbrev pub on_column : Shape → Result (Class × Space) ShapeRefusal → Result (Class × Space) ShapeRefusal
 on_column x p = if is_single x.space then Err bad_argument else p
 
 -- the class of a column of `groupsummary`; the method's class is looked at for each of them
@@ -82,22 +82,22 @@ abbrev pub part_class : Part → Result (List Class) ClassFault → Result Class
 part_class part (Ok classes) = Ok (get_or classes (part_place part) class.Double)
 part_class part (Err e) = Err e
 
-abbrev pub group_class : Method → Part → Class → Class → Result Class Refusal
+abbrev pub group_class : Method → Part → Class → Class → Result Class ShapeRefusal
 group_class m part key data' = allowed (part_class part (summary_classes m key data'))
 
 -- without a method there are no data, and no column of them
-abbrev pub counted : Method → Part → Shape → Result (Class × Space) Refusal
+abbrev pub counted : Method → Part → Shape → Result (Class × Space) ShapeRefusal
 counted Count keys g = placed (group_class Count keys g.class g.class) (Ok (groups Count g.tree None))
 counted Count counts g = placed (group_class Count counts g.class g.class) (Ok (groups Count g.tree None))
 counted m part g = Err bad_argument
 
-abbrev pub summary : Method → Part → Shape → Shape → Result (Class × Space) Refusal
+abbrev pub summary : Method → Part → Shape → Shape → Result (Class × Space) ShapeRefusal
 summary Count part g v = Err bad_argument
 summary m part g v = placed (group_class m part g.class v.class) (summarised m g v)
 
 -- ---- the class and the space of an operation's result, or its refusal
 
-abbrev pub place_of : Op → List Shape → Result (Class × Space) Refusal
+abbrev pub place_of : Op → List Shape → Result (Class × Space) ShapeRefusal
 place_of (constant c) [] = Ok (class_of (seen_kind c), single)
 place_of (binary op) (x ∷ y ∷ []) = placed (allowed (binary_class op x.class (is_single x.space) y.class (is_single y.space))) (common x.space y.space)
 place_of (unary op) (x ∷ []) = placed (allowed (unary_class op x.class)) (Ok x.space)
@@ -128,11 +128,11 @@ tree_over op [] = leaf op
 tree_over op (x ∷ []) = one op x.tree
 tree_over op (x ∷ y ∷ zs) = two op x.tree y.tree
 
-abbrev pub shaped : Op → List Shape → Result (Class × Space) Refusal → Result Shape Refusal
+abbrev pub shaped : Op → List Shape → Result (Class × Space) ShapeRefusal → Result Shape ShapeRefusal
 shaped op xs (Ok p) = Ok (record { class = p.0; space = p.1; tree = tree_over op xs; chain = chain_of op xs })
 shaped op xs (Err e) = Err e
 
-abbrev pub shape : Op → List Shape → Result Shape Refusal
+abbrev pub shape : Op → List Shape → Result Shape ShapeRefusal
 shape op xs = shaped op xs (place_of op xs)
 
 -- a datastore's variable

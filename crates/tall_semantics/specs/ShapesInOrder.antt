@@ -3,18 +3,18 @@
 -- and no outcome: a list is made exactly where it is sound, and its values have these shapes (src/laws.rt).
 use Rattle.std.specs.Prelude.{◌≡◌, ℕ, Some, Result, Ok, Err, List, [], ◌∷◌, ◌++◌, map, get_or, slice_get}
 use Rattle.tall_semantics.specs.Operations.{Made, stored, operation}
-use Rattle.tall_semantics.specs.Shapes.{Shape, Refusal, bad_argument, shape, stored_shape}
+use Rattle.tall_semantics.specs.Shapes.{Shape, ShapeRefusal, bad_argument, shape, stored_shape}
 use Rattle.tall_semantics.specs.Deferred.{Vertex, AllBelow}
 use Rattle.tall_semantics.specs.InOrder.{blank}
 
 -- the shape of what is made of operands with these shapes, or its refusal
-abbrev pub made_shape : Made → List Shape → Result Shape Refusal
+abbrev pub made_shape : Made → List Shape → Result Shape ShapeRefusal
 made_shape (stored s v c) [] = Ok (stored_shape s v c)
 made_shape (stored s v c) (x ∷ xs) = Err bad_argument
 made_shape (operation op) xs = shape op xs
 
 -- the shape of what is refused, which no made list has
-abbrev pub or_blank_shape : Result Shape Refusal → Shape
+abbrev pub or_blank_shape : Result Shape ShapeRefusal → Shape
 or_blank_shape (Ok s) = s
 or_blank_shape (Err e) = blank.shape
 

@@ -5,7 +5,7 @@ use Rattle.tall_value.specs.declared.functions.Method.TheVariants as method
 use Rattle.tall_value.specs.declared.operators.Binary.TheVariants.{Gt, Ge}
 use Rattle.tall_value.specs.Cells.{double}
 use Rattle.tall_semantics.specs.Operations.{Tree, column, leaf, two, constant, binary}
-use Rattle.tall_semantics.specs.Spaces.{Space, single, rows_of, kept, first, last, groups, has_rows}
+use Rattle.tall_semantics.specs.Spaces.{Space, single, rows_of, filtered, first, last, groups, has_rows}
 use Rattle.tall_semantics.specs.Spaces as spaces
 use Rattle.tall_semantics.specs.Outcomes.{rows}
 use Rattle.tall_semantics.specs.Talls.{Columns, tall}
@@ -39,10 +39,10 @@ another_constant = refl
 equal_nans : same_tree (leaf (constant (double None))) (leaf (constant (double None))) ≡ true
 equal_nans = refl
 
-equal_masks : same_space (kept (rows_of 0) above_zero) (kept (rows_of 0) above_zero) ≡ true
+equal_masks : same_space (filtered (rows_of 0) above_zero) (filtered (rows_of 0) above_zero) ≡ true
 equal_masks = refl
 
-all_rows_and_some : same_space (kept (rows_of 0) above_zero) (rows_of 0) ≡ false
+all_rows_and_some : same_space (filtered (rows_of 0) above_zero) (rows_of 0) ≡ false
 all_rows_and_some = refl
 
 another_datastore : same_space (rows_of 0) (rows_of 1) ≡ false
@@ -64,10 +64,10 @@ with_and_without_method : same_space (groups method.Count x None) (groups method
 with_and_without_method = refl
 
 -- a datastore's rows, filtered or not
-rows_of_a_filter : has_rows (kept (kept (rows_of 0) above_zero) above_zero) ≡ true
+rows_of_a_filter : has_rows (filtered (filtered (rows_of 0) above_zero) above_zero) ≡ true
 rows_of_a_filter = refl
 
-rows_of_a_head : has_rows (kept (first 8 (rows_of 0)) above_zero) ≡ false
+rows_of_a_head : has_rows (filtered (first 8 (rows_of 0)) above_zero) ≡ false
 rows_of_a_head = refl
 
 -- ---- rows of spaces, over the stored column 1, -2, 3
@@ -78,11 +78,11 @@ stored_column s v = rows (numbered 1 (number (pos 1) ∷ number (negsuc 1) ∷ n
 abbrev numbers_of : Space → List ℕ
 numbers_of s = row_numbers stored_column (λ store. 1 ∷ 2 ∷ 3 ∷ []) s
 
-kept_numbers : numbers_of (kept (rows_of 0) above_zero) ≡ 1 ∷ 3 ∷ []
+kept_numbers : numbers_of (filtered (rows_of 0) above_zero) ≡ 1 ∷ 3 ∷ []
 unfolding tall
 kept_numbers = refl
 
-last_of_kept : numbers_of (last 1 (kept (rows_of 0) above_zero)) ≡ 3 ∷ []
+last_of_kept : numbers_of (last 1 (filtered (rows_of 0) above_zero)) ≡ 3 ∷ []
 unfolding tall
 last_of_kept = refl
 

@@ -9,7 +9,7 @@ pub data Space : Type 0 where
   -- all rows of a datastore
   rows_of : (store : ℕ) → Space
   -- the rows of a space that a mask keeps
-  kept : Space → (mask : Tree) → Space
+  filtered : Space → (mask : Tree) → Space
   -- the first and the last k rows of a space
   first : (k : ℕ) → Space → Space
   last : (k : ℕ) → Space → Space
@@ -25,11 +25,11 @@ is_single s = false
 -- the space has a datastore's rows: all of them, or those that masks keep
 abbrev pub has_rows : Space → Bool
 has_rows (rows_of store) = true
-has_rows (kept s mask) = has_rows s
+has_rows (filtered s mask) = has_rows s
 has_rows s = false
 
 -- the datastore whose rows the space has
 abbrev pub store_of : Space → Option ℕ
 store_of (rows_of store) = Some store
-store_of (kept s mask) = store_of s
+store_of (filtered s mask) = store_of s
 store_of s = None

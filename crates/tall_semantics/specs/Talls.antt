@@ -13,7 +13,7 @@ use Rattle.tall_semantics.specs.Operations.{Op, constant, unary, binary, filter,
 use Rattle.tall_semantics.specs.Faults.{At, Fault, least_fault}
 use Rattle.tall_semantics.specs.Outcomes.{Outcome, rows, scalar, fault, fault_of, rows_in, cells_in, row_by_row, alone, elementwise_one, elementwise_two, grouped}
 use Rattle.tall_semantics.specs.Spaces.{is_single}
-use Rattle.tall_semantics.specs.Shapes.{Shape, Refusal, bad_argument, shape, stored_shape}
+use Rattle.tall_semantics.specs.Shapes.{Shape, ShapeRefusal, bad_argument, shape, stored_shape}
 
 pub record Tall : Type 0 where
   pub shape : Shape
@@ -48,19 +48,19 @@ unless None x = x
 abbrev pub outcome : At → Op → List Tall → Outcome
 outcome at op xs = unless (least_fault (map fault_of (outcomes xs))) (own_outcome at op xs)
 
-abbrev pub with_shape : Outcome → Result Shape Refusal → Result Tall Refusal
+abbrev pub with_shape : Outcome → Result Shape ShapeRefusal → Result Tall ShapeRefusal
 with_shape x (Ok s) = Ok (record { shape = s; outcome = x })
 with_shape x (Err e) = Err e
 
 -- the operation of the expression `at` over tall values
-unfoldable pub tall : At → Op → List Tall → Result Tall Refusal
+unfoldable pub tall : At → Op → List Tall → Result Tall ShapeRefusal
 tall at op xs = with_shape (outcome at op xs) (shape op (shapes xs))
 
 -- `*` needs a scalar on at least one side and `/` one on its right, which is looked at before the classes
-abbrev pub times : At → Tall → Tall → Result Tall Refusal
+abbrev pub times : At → Tall → Tall → Result Tall ShapeRefusal
 times at x y = if is_single x.shape.space || is_single y.shape.space then tall at (binary Mul) (x ∷ y ∷ []) else Err bad_argument
 
-abbrev pub over : At → Tall → Tall → Result Tall Refusal
+abbrev pub over : At → Tall → Tall → Result Tall ShapeRefusal
 over at x y = if is_single y.shape.space then tall at (binary Div) (x ∷ y ∷ []) else Err bad_argument
 
 -- ---- stored columns
@@ -72,7 +72,7 @@ Columns = (store variable : ℕ) → Outcome
 abbrev pub stored_tall : (store variable : ℕ) → Class → Outcome → Tall
 stored_tall s v c x = record { shape = stored_shape s v c; outcome = x }
 
-abbrev pub made_tall : Columns → At → Made → List Tall → Result Tall Refusal
+abbrev pub made_tall : Columns → At → Made → List Tall → Result Tall ShapeRefusal
 made_tall columns at (stored s v c) [] = Ok (stored_tall s v c (columns s v))
 made_tall columns at (stored s v c) (x ∷ xs) = Err bad_argument
 made_tall columns at (operation op) xs = tall at op xs

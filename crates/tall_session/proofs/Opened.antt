@@ -13,7 +13,7 @@ use Rattle.tall_store.specs.declared.faults.StoreFault.TheVariants.{BadArgument,
 use Rattle.tall_store.specs.Stores.{SeenStore}
 use Rattle.tall_store.specs.Names.{variable_names}
 use Rattle.tall_store.specs.Choices.{all_places}
-use Rattle.tall_store.specs.Opening.{first_fields, opened_file, opened_records, opened_variables, opening, store_of}
+use Rattle.tall_store.specs.Opening.{first_fields, opened_file, opened_records, opened_variables, opening, opened_store}
 use Rattle.tall_session.specs.FirstScript.{data_name}
 use Rattle.tall_session.specs.Data.{data_options}
 
@@ -66,7 +66,7 @@ opened_is files store made = by_file (file_in files data_name) refl made
   where
     by_count : (bytes : List ℕ) (first : Fields) (rest : List Fields) (names : List (List ℕ)) → file_in files data_name ≡ Some bytes → file_records 44 bytes ≡ first ∷ rest
         → (b : Bool) → eqb 1 (length names) ≡ b
-        → store_of data_options first names (if b then Some (format.Int16 ∷ []) else None) (Some (all_places (length names))) ≡ Ok store → IsOpened files store
+        → opened_store data_options first names (if b then Some (format.Int16 ∷ []) else None) (Some (all_places (length names))) ≡ Ok store → IsOpened files store
     by_count bytes first rest names found records false e m = absurd cc
     by_count bytes first rest names found records true e m = of_made files store bytes first rest names (eqb-true 1 (length names) e) found records (same_store (made_of first names) store m)
 

@@ -14,7 +14,8 @@ use Rattle.std.proofs.lemmas.List.FromFn.{length-map-range_with_len}
 use Rattle.std.proofs.lemmas.Map.Keys.{IsDistinct-cons}
 use Rattle.std.proofs.lemmas.Map.Made.{length-le_from_is_member}
 use Rattle.std.proofs.lemmas.Slice.Eq.{bytes_eq-Decides}
-use Rattle.tall_store.specs.Names.{has_name, is_suffix_taken, least_free, numbered_name, suffix_of, suffixed}
+use Rattle.tall_store.specs.Names.{is_suffix_taken, least_free, numbered_name, suffix_of, suffixed}
+use Rattle.tall_value.specs.Names.{has_name}
 use Rattle.tall_store.proofs.Selections.{bytes_laws}
 
 -- ---- names of numbers

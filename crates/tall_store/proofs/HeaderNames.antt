@@ -7,7 +7,8 @@ use Rattle.std.proofs.lemmas.Bool.{false≢true}
 use Rattle.std.proofs.lemmas.List.{append_assoc, append-nil, drop_more}
 use Rattle.std.proofs.Math.Seq.{drop-length}
 use Rattle.std.proofs.lemmas.Map.Keys.{IsDistinct-push}
-use Rattle.tall_store.specs.Names.{distinct_name, field_name, has_name, names_from, numbered_name, numbered_names}
+use Rattle.tall_store.specs.Names.{distinct_name, field_name, names_from, numbered_name, numbered_names}
+use Rattle.tall_value.specs.Names.{has_name}
 use Rattle.tall_store.proofs.Selections.{bytes_laws}
 use Rattle.tall_store.proofs.Freeness.{distinct_range, numbered_apart}
 

@@ -3,8 +3,7 @@ use Rattle.std.proofs.Common.{ℕ, ◌≡◌, ◌∙◌, ◌<◌, ◌+◌, List,
 use Rattle.std.specs.Prelude.{◌&&◌, not, option_map}
 use Rattle.std.proofs.lemmas.List.{append_assoc, append-nil, drop_more}
 use Rattle.std.proofs.Math.Seq.{drop-length}
-use Rattle.tall_store.specs.Names.{has_name}
-use Rattle.tall_store.specs.Options.{are_distinct}
+use Rattle.tall_value.specs.Names.{are_distinct, has_name}
 use Rattle.tall_store.specs.Choices.{cons_option, place_of, places_of}
 
 -- ---- copies

@@ -15,8 +15,8 @@ use Rattle.std.proofs.lemmas.Map.Made.{length-le_from_is_member}
 use Rattle.std.proofs.lemmas.Slice.Eq.{bytes_eq-Decides}
 use Rattle.tall_cut.specs.declared.cutter.ReadSize.{ReadSize}
 use Rattle.tall_store.specs.declared.format.Format.{Format}
-use Rattle.tall_store.specs.Names.{has_name}
-use Rattle.tall_store.specs.Options.{are_distinct, is_choice, is_nonempty, is_size}
+use Rattle.tall_store.specs.Options.{is_choice, is_nonempty, is_size}
+use Rattle.tall_value.specs.Names.{are_distinct, has_name}
 use Rattle.tall_store.specs.Choices.{cons_option, place_of, places_of}
 use Rattle.tall_store.specs.Stores.{IsStore, SeenStore}
 

@@ -3,13 +3,9 @@
 -- such that neither a header field nor an earlier variable has the result.
 use Rattle.std.specs.Prelude.{ℕ, zero, suc, ◌+◌, ◌||◌, Bool, if◌then◌else◌, List, [], ◌∷◌, ◌++◌, length, map, codes}
 use Rattle.std.specs.List.{range_with_len}
-use Rattle.std.specs.Set.{is_member}
-use Rattle.std.specs.Str.{bytes_eq}
 use Rattle.std.specs.Fmt.{decimal}
+use Rattle.tall_value.specs.Names.{has_name}
 use Rattle.tall_num.specs.Spelling.{is_empty}
-
-abbrev pub has_name : List (List ℕ) → List ℕ → Bool
-has_name names name = is_member bytes_eq names name
 
 -- `Var` with a position
 abbrev pub numbered_name : ℕ → List ℕ

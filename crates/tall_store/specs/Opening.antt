@@ -13,8 +13,8 @@ use Rattle.tall_store.specs.Choices.{chosen_formats, chosen_places}
 use Rattle.tall_store.specs.Stores.{SeenStore}
 
 -- what needs the variables: the names that are selected are there, and there is a format for each variable
-abbrev pub store_of : SeenOptions → Fields → List (List ℕ) → Option (List Format) → Option (List ℕ) → Result SeenStore StoreFault
-store_of o first names (Some formats) (Some selected) = Ok (record {
+abbrev pub opened_store : SeenOptions → Fields → List (List ℕ) → Option (List Format) → Option (List ℕ) → Result SeenStore StoreFault
+opened_store o first names (Some formats) (Some selected) = Ok (record {
   files = o.files;
   delimiter = o.delimiter;
   size = o.size;
@@ -25,13 +25,13 @@ store_of o first names (Some formats) (Some selected) = Ok (record {
   selected = selected;
   first = first;
 })
-store_of o first names (Some formats) None = Err BadArgument
-store_of o first names None selected = Err BadArgument
+opened_store o first names (Some formats) None = Err BadArgument
+opened_store o first names None selected = Err BadArgument
 
 -- by the names of the variables, and the fields of the first data record
 abbrev pub opened_variables : SeenOptions → Fields → Fields → List (List ℕ) → Result SeenStore StoreFault
 opened_variables o first fields names =
-    store_of o first names (chosen_formats o.missing fields (length names) o.formats) (chosen_places names o.selected)
+    opened_store o first names (chosen_formats o.missing fields (length names) o.formats) (chosen_places names o.selected)
 
 -- a header has names in UTF-8; a first record has fewer than 2^20 fields
 abbrev pub opened_first : SeenOptions → Fields → Fields → Result SeenStore StoreFault

@@ -5,7 +5,7 @@ use Rattle.tall_cut.specs.declared.cutter.ReadSize.{ReadSize}
 use Rattle.tall_cut.specs.declared.cutter.ReadSize.TheVariants.{Rows, File}
 use Rattle.tall_store.specs.declared.format.Format.{Format}
 use Rattle.tall_store.specs.declared.options.Options.{Options}
-use Rattle.tall_store.specs.Names.{has_name}
+use Rattle.tall_value.specs.Names.{are_distinct}
 
 pub record SeenOptions : Type 0 where
   pub files : List (List ℕ)
@@ -28,11 +28,6 @@ options_seen o = record {
 }
 
 -- ---- what is accepted
-
--- no name stands twice
-abbrev pub are_distinct : List (List ℕ) → Bool
-are_distinct [] = true
-are_distinct (name ∷ names) = not (has_name names name) && are_distinct names
 
 abbrev pub is_nonempty : {A : Type 0} → List A → Bool
 is_nonempty [] = false

@@ -3,7 +3,8 @@ ghost use Rattle.std.specs.Prelude.{◌≡◌, ◌<◌, ◌≤◌, ◌^◌, ◌|
 ghost use Rattle.std.specs.List.{IsDistinct, list_all};
 ghost use Rattle.std.specs.Str.{bytes_eq, is_utf8};
 ghost use Rattle.csv.specs.Records.{fields_of};
-ghost use Rattle.tall_store.specs.Names.{distinct_name, field_name, has_name, header_names, is_suffix_taken, numbered_name, numbered_names, suffix_of, suffixed, variable_names};
+ghost use Rattle.tall_store.specs.Names.{distinct_name, field_name, header_names, is_suffix_taken, numbered_name, numbered_names, suffix_of, suffixed, variable_names};
+ghost use Rattle.tall_value.specs.Names.{has_name};
 
 use crate::record::field_at;
 use crate::texts::has_name;

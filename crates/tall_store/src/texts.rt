@@ -1,7 +1,7 @@
 //! Lists of texts, and names among them.
 ghost use Rattle.std.specs.Prelude.{◌≡◌, IfOk, map, option_map, string_bytes};
-ghost use Rattle.tall_store.specs.Names.{has_name};
-ghost use Rattle.tall_store.specs.Options.{are_distinct, is_choice};
+ghost use Rattle.tall_store.specs.Options.{is_choice};
+ghost use Rattle.tall_value.specs.Names.{are_distinct, has_name};
 ghost use Rattle.tall_store.specs.Choices.{place_of, places_of};
 
 use std::alloc::{AllocError, Global};

@@ -1,1 +1,1 @@
-mod StoredLaws
+pub mod StoredLaws

@@ -52,7 +52,7 @@ number_by : (place : ℕ) (at : At) (f : Option ReadingFault) (x : Fault) → op
 number_by place at None x e = absurd cc
 number_by place at (Some f) x e = let g : fault_of_reading place at f ≡ x = cc in (ap (λ (y : Fault). y.number) (sym g), ap (λ (y : Fault). y.store) (sym g))
 
-one_store : (d e : Store) → ◌≡◌ {A = Option Store} (Some d) (Some e) → d ≡ e
+pub one_store : (d e : Store) → ◌≡◌ {A = Option Store} (Some d) (Some e) → d ≡ e
 one_store d e h = cc
 
 never_scalar : (place : ℕ) (at : At) (r : Result (List (ℕ × Seen)) ReadingFault) (x : Seen) → stored_outcome place at r ≡ scalar x → ⊥
@@ -73,11 +73,11 @@ some_earlier : (f : ReadingFault) (g : Option ReadingFault) → earlier_of (Some
 some_earlier f None e = absurd cc
 some_earlier f (Some g) e = one_of (precedes g f) f g e
 
-none_there : (fs : List ReadingFault) → first_reading_fault fs ≡ None → fs ≡ []
+pub none_there : (fs : List ReadingFault) → first_reading_fault fs ≡ None → fs ≡ []
 none_there [] e = refl
 none_there (f ∷ fs) e = absurd (some_earlier f (first_reading_fault fs) e)
 
-both_empty : {A : Type 0} (xs ys : List A) → xs ++ ys ≡ [] → (xs ≡ []) × (ys ≡ [])
+pub both_empty : {A : Type 0} (xs ys : List A) → xs ++ ys ≡ [] → (xs ≡ []) × (ys ≡ [])
 both_empty [] ys e = (refl, e)
 both_empty (x ∷ xs) ys e = absurd cc
 
@@ -98,7 +98,7 @@ field_none store r e =
     let rest = (both_empty (fault_when (nat_le (2 ^ 40) r.row) TooManyRows r.file r.row) (fault_when (nat_lt (length store.names) (length r.fields)) TooManyFields r.file r.row ++ faults_in store r) e).1 in
     (both_empty (fault_when (nat_lt (length store.names) (length r.fields)) TooManyFields r.file r.row) (faults_in store r) rest).1
 
-column_none : (store : SeenStore) (variable : ℕ) → variable < length store.selected → (records : List DataRecord) → flat_map (record_faults store) records ≡ []
+pub column_none : (store : SeenStore) (variable : ℕ) → variable < length store.selected → (records : List DataRecord) → flat_map (record_faults store) records ≡ []
     → column_faults store records (get_or store.selected variable 0) ≡ []
 column_none store variable l [] e = refl
 column_none store variable l (r ∷ records) e =

@@ -30,53 +30,13 @@ use Rattle.tall_store.proofs.Limits.{numbered_append}
 use Rattle.tall_store.proofs.TableRows.{whole_height}
 use Rattle.tall_stored.specs.StoredColumns.{AreStored, Store, fault_of_reading, stored_outcome, variable_class}
 use Rattle.tall_stored_blocks.specs.StoredBlocks.{column_of, columns_of, block_of, blocks_of}
+use Rattle.tall_stored.proofs.StoredLaws.{both_empty, column_none, none_there, one_store}
 
 -- ---- no fault
-
-one_of : (b : Bool) (f g : ReadingFault) → ◌≡◌ {A = Option ReadingFault} (if b then Some g else Some f) None → ⊥
-one_of true f g e = absurd cc
-one_of false f g e = absurd cc
-
-some_earlier : (f : ReadingFault) (g : Option ReadingFault) → earlier_of (Some f) g ≡ None → ⊥
-some_earlier f None e = absurd cc
-some_earlier f (Some g) e = one_of (precedes g f) f g e
-
-none_there : (fs : List ReadingFault) → first_reading_fault fs ≡ None → fs ≡ []
-none_there [] e = refl
-none_there (f ∷ fs) e = absurd (some_earlier f (first_reading_fault fs) e)
-
-both_empty : {A : Type 0} (xs ys : List A) → xs ++ ys ≡ [] → (xs ≡ []) × (ys ≡ [])
-both_empty [] ys e = (refl, e)
-both_empty (x ∷ xs) ys e = absurd cc
-
-none_given : (a : Option ReadingFault) (fs : List ReadingFault) → cons_option a fs ≡ [] → (a ≡ None) × (fs ≡ [])
-none_given None fs e = (refl, e)
-none_given (Some f) fs e = absurd cc
-
-none_at : (h : ℕ → Option ReadingFault) (xs : List ℕ) (i : ℕ) → i < length xs → filter_map h xs ≡ [] → h (get_or xs i 0) ≡ None
-none_at h [] i l e = absurd (omega (arith, l))
-none_at h (x ∷ xs) zero l e = (none_given (h x) (filter_map h xs) e).0
-none_at h (x ∷ xs) (suc i) l e = none_at h xs i (omega (arith, l)) (none_given (h x) (filter_map h xs) e).1
 
 module _ (store : SeenStore) where
   abbrev Faultless : List DataRecord → Type 0
   Faultless records = flat_map (record_faults store) records ≡ []
-
-  faults_in : DataRecord → List ReadingFault
-  faults_in r = filter_map (λ place. result_err (value_at store place r)) store.selected
-
-  field_none : (r : DataRecord) → record_faults store r ≡ [] → filter_map (λ place. result_err (value_at store place r)) store.selected ≡ []
-  field_none r e =
-      let fields : List ReadingFault = filter_map (λ place. result_err (value_at store place r)) store.selected in
-      let rest = (both_empty (fault_when (nat_le (2 ^ 40) r.row) TooManyRows r.file r.row) (fault_when (nat_lt (length store.names) (length r.fields)) TooManyFields r.file r.row ++ fields) e).1 in
-      (both_empty (fault_when (nat_lt (length store.names) (length r.fields)) TooManyFields r.file r.row) fields rest).1
-
-  column_none : (variable : ℕ) → variable < length store.selected → (records : List DataRecord) → Faultless records → column_faults store records (get_or store.selected variable 0) ≡ []
-  column_none variable l [] e = refl
-  column_none variable l (r ∷ records) e =
-      let both = both_empty (record_faults store r) (flat_map (record_faults store) records) e in
-      let here : result_err (value_at store (get_or store.selected variable 0) r) ≡ None = none_at (λ place. result_err (value_at store place r)) store.selected variable l (field_none r both.0) in
-      ap (λ a. cons_option a (column_faults store records (get_or store.selected variable 0))) here ∙ column_none variable l records both.1
 
   -- ---- consecutive blocks
 
@@ -153,8 +113,8 @@ module _ (store : SeenStore) where
       next : (n m : ℕ) → n + 1 + m ≡ n + suc m
       next n m = omega arith
 
-  height_of : (variable : ℕ) → variable < length store.selected → (b : Block) → Faultless (records_of b) → length (cells_of (get_or store.selected variable 0) b) ≡ length b.records
-  height_of variable l b e = whole_height store (records_of b) (get_or store.selected variable 0) (column_none variable l (records_of b) e) ∙ records_long b.file b.row b.records
+  pub height_of : (variable : ℕ) → variable < length store.selected → (b : Block) → Faultless (records_of b) → length (cells_of (get_or store.selected variable 0) b) ≡ length b.records
+  height_of variable l b e = whole_height store (records_of b) (get_or store.selected variable 0) (column_none store variable l (records_of b) e) ∙ records_long b.file b.row b.records
 
   rows_joined : (s variable : ℕ) → variable < length store.selected → (n : ℕ) (bs : List Block) → AreConsecutive n bs
       → all_rows (blocks_of store bs) s variable ≡ numbered n (flat_map (cells_of (get_or store.selected variable 0)) bs)
@@ -218,9 +178,6 @@ pub ascending_blocks : (files : Files) (d : Store) → first_fault d.store files
 ascending_blocks files d none cutting c = ascending_from d.store 1 (blocks_from cutting d.store files 0 1 d.store.files) (all_consecutive d.store cutting c files none)
 
 -- ---- of stored columns
-
-one_store : (d e : Store) → ◌≡◌ {A = Option Store} (Some d) (Some e) → d ≡ e
-one_store d e h = cc
 
 variable_of : (m : Made) (s a : ℕ) → IsVariable m s a → (class : Class) × (m ≡ stored s a class)
 variable_of (stored t b k) s a h = (k, ap (λ x. stored x b k) h.0 ∙ ap (λ x. stored s x k) h.1)

@@ -1,3 +1,4 @@
+pub mod Names
 pub mod Classes
 pub mod ClassTables
 pub mod Cells

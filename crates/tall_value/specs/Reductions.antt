@@ -35,6 +35,19 @@ is_present c = not (is_nan c)
 abbrev pub present : List Seen → List Seen
 present cs = filter is_present cs
 
+-- the cells that a fold looks at, which may pass NaN over
+abbrev pub used : (passes_nan : Bool) → List Seen → List Seen
+used true cs = present cs
+used false cs = cs
+
+abbrev pub every_cell : Seen → Bool
+every_cell c = true
+
+-- the cell that there is, else another
+abbrev pub or_cell : Seen → Option Seen → Seen
+or_cell c None = c
+or_cell c (Some d) = d
+
 abbrev pub total : List ℤ → ℤ
 total [] = pos 0
 total (n ∷ ns) = n +ℤ total ns

@@ -77,7 +77,7 @@ fn texts_kind(a: Kind, b: Kind) -> Result<Kind, ClassFault>
     }
 }
 
-fn of_number(a: Kind, made: Kind) -> Result<Kind, ClassFault>
+pub(crate) fn of_number(a: Kind, made: Kind) -> Result<Kind, ClassFault>
     ensures { result ≡ of_number a made }
 {
     match a {
@@ -127,7 +127,7 @@ fn binary_kind(
     }
 }
 
-fn sign_kind(a: Kind) -> Result<Kind, ClassFault>
+pub(crate) fn sign_kind(a: Kind) -> Result<Kind, ClassFault>
     ensures { result ≡ sign_kind a }
 {
     match a {

@@ -2,7 +2,8 @@ use Rattle.std.proofs.Common.{rules, ℕ, List, ◌≡◌, ◌<◌, ◌∙◌, �
 use Rattle.std.specs.Prelude.{◌-◌, ◌||◌, IfOk}
 use Rattle.std.proofs.lemmas.Result.{IfOk-weaker}
 use Rattle.csv.specs.Records.{fields_of}
-use Rattle.tall_store.specs.Names.{has_name, is_suffix_taken, suffix_of, suffixed}
+use Rattle.tall_store.specs.Names.{is_suffix_taken, suffix_of, suffixed}
+use Rattle.tall_value.specs.Names.{has_name}
 use Rattle.tall_store.proofs.Freeness.{fresh_suffix, least_found, least_last, least_more}
 use Rattle.tall_store.proofs.names.free_name.Goals as goal
 

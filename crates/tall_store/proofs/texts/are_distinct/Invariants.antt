@@ -1,5 +1,5 @@
 use Rattle.std.proofs.Common.{◌≡◌, drop}
-use Rattle.tall_store.specs.Options.{are_distinct}
+use Rattle.tall_value.specs.Names.{are_distinct}
 use Rattle.tall_store.proofs.texts.are_distinct.Given as goal
 
 abbrev pub invariant-loop-i : goal.invariant-loop-i
