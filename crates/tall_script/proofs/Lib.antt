@@ -17,3 +17,4 @@ mod LaterNumbers
 mod PhaseStores
 mod VerticesAdded
 mod PairTables
+mod ValuesAdded

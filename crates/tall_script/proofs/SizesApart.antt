@@ -1,12 +1,14 @@
--- Without a mapreduce a run is the same with other ReadSizes.
-use Rattle.std.proofs.Common.{◌≡◌, ℕ, zero, suc, ◌+◌, List, [], ◌∷◌, ◌++◌, Bool, true, false, refl, ap, sym, ◌∙◌}
+-- A run in which no mapreduce ran is the same with other ReadSizes.
+use Rattle.std.proofs.Common.{◌≡◌, ℕ, zero, suc, ◌+◌, List, [], ◌∷◌, ◌++◌, Bool, true, false, refl, ap, sym, subst, ◌∙◌}
 use Rattle.std.proofs.lemmas.Bool.{and_parts, true≢false}
-use Rattle.std.proofs.lemmas.List.{length-map}
-use Rattle.std.specs.List.{flat_map}
+use Rattle.std.proofs.lemmas.List.{length-map, append-nil, append_assoc}
+use Rattle.std.proofs.lemmas.List.Elements.{All-nil, All-cons, All-head, All-tail, All-append}
+use Rattle.std.specs.List.{All, flat_map}
+use Rattle.std.specs.Option.{is_some}
 use Rattle.std.specs.Prelude.{if◌then◌else◌, ◌==◌, ◌&&◌, not, map, length, slice_get, codes, Option, None, Some, option_map, Result, Ok, Err}
 use Rattle.tall_cut.specs.declared.cutter.ReadSize.{ReadSize}
 use Rattle.tall_cut.specs.declared.cutter.ReadSize.TheVariants.{File}
-use Rattle.tall_grammar.specs.Trees.{Tree, tree, Args, no_args, value_arg, colon_arg, Body, assigned, property, bare, SeenStatement}
+use Rattle.tall_grammar.specs.Trees.{Tree, tree, Args, no_args, value_arg, colon_arg, Body, assigned, property, bare, SeenStatement, SeenFunction}
 use Rattle.tall_grammar.specs.Trees as trees
 use Rattle.tall_outside.specs.Shelf.{Files}
 use Rattle.tall_semantics.specs.Faults.{At, Cause, computed, reading, Fault, least_fault}
@@ -26,14 +28,17 @@ use Rattle.tall_store.specs.Properties.{sized, selecting, formatted, with_places
 use Rattle.tall_store.specs.Stores.{SeenStore}
 use Rattle.tall_value.specs.declared.faults.ReadingKind.{ReadingKind}
 use Rattle.tall_value.specs.declared.faults.ReadingKind.TheVariants as kind
-use Rattle.tall_local.specs.Arguments.{Argument, colon, given, value_given}
+use Rattle.tall_local.specs.Arguments.{Argument, colon, function, given, value_given}
 use Rattle.tall_local.specs.Expressions.{Language, Valued, gives, stops, go_on, answered, a_value, callee_named, callee, handle_in, call_value, argument, value, arguments}
 use Rattle.tall_local.specs.Functions.{script_function_named}
 use Rattle.tall_local.specs.Lists.{all_of, each_of}
 use Rattle.tall_local.specs.Memory.{Memory}
 use Rattle.tall_local.specs.Names.{named}
-use Rattle.tall_local.specs.Refusals.{Refusal, bad_argument, Stop, stop_at, and_then, or_refuse}
-use Rattle.tall_local.specs.StateLaws.{state_after, is_name_in, calls_none, calls_none_in}
+use Rattle.tall_local.specs.Refusals.{Refusal, undefined, bad_argument, Stop, stop_at, and_then, or_refuse}
+use Rattle.tall_local.specs.CallsMade.{with_calls, listing, unlisted, calls_made, calls_in_arguments}
+use Rattle.tall_local.specs.StateLaws.{state_after, IsKept, CallsKeep, CallsKeepBut, calls_none}
+use Rattle.tall_local.proofs.ListedCalls.{value_unlisted, arguments_unlisted}
+use Rattle.tall_local.proofs.StatesKept.{value_kept, arguments_kept, value_kept_but, arguments_kept_but}
 use Rattle.tall_local.specs.Values.{datastore, tall_table, deferred, in_memory}
 use Rattle.tall_local.specs.declared.functions.ScriptFunction.{ScriptFunction}
 use Rattle.tall_local.specs.declared.functions.ScriptFunction.TheVariants.{OfValues, TabularTextDatastore, Tall as TallOf, Gather, MapReduce, ReadAll, Elsewhere}
@@ -41,9 +46,10 @@ use Rattle.tall_script.specs.Datastores.{datastore_call, options_in, first_openi
 use Rattle.tall_script.specs.Gathers.{answered_all, values_or_fault, gathered_value, gather_all, gather_if, gather_one, gather_openings, gather_value, talls_in}
 use Rattle.tall_script.specs.ReadingFaults.{reading_in, refusal_of_cause}
 use Rattle.tall_script.specs.Runs.{Run, behind, next, run_from}
-use Rattle.tall_script.specs.ScriptLanguage.{Setting, place, read_name, is_mapreduce, script_call, script_language, script_value}
+use Rattle.tall_script.specs.ScriptLanguage.{Setting, function_in, place, read_name, is_mapreduce, mapreduce_with, reduce_store, reduced_arguments, script_call, script_language, script_value}
 use Rattle.tall_script.specs.ScriptValues.{TallValue}
-use Rattle.tall_script.specs.SizeLaws.{in_blocks_of, sizeless, sizeless_state, sizeless_valued, sizeless_done, sizeless_run, reduces, is_reducing, reduces_none, reduce_none}
+use Rattle.tall_script.specs.OpeningLaws.{ScriptCall, reduces_store}
+use Rattle.tall_script.specs.SizeLaws.{in_blocks_of, sizeless, sizeless_state, sizeless_valued, sizeless_done, sizeless_run, reduces, is_reducing, reduces_none, reduce_none, ReducesNothing, calls_in_body, AfterDone, RunsNone}
 use Rattle.tall_script.specs.Statements.{Done, shows, fails, then_do, set_name, set_names, shown_text, assign, gather_into, datastore_named, changed_store, put_store, alone, body, statement}
 use Rattle.tall_script.specs.StoreArguments.{properties, size_given, texts_given, formats_given}
 use Rattle.tall_script.specs.States.{Openings, State, Store, with_openings}
@@ -274,99 +280,257 @@ same_inside d e h = ap (λ r. elim r as (λ x. Store) [ Ok x ↦ x | Err f ↦ s
 same_refusal : (e f : Refusal) → ◌≡◌ {A = Result Store Refusal} (Err e) (Err f) → e ≡ f
 same_refusal e f h = ap (λ r. elim r as (λ x. Refusal) [ Ok x ↦ e | Err g ↦ g ]) h
 
+-- ---- states without a look at ReadSizes
+
+abbrev AreAlike : State Tall → State Tall → Type 0
+AreAlike s t = sizeless_state s ≡ sizeless_state t
+
+same_names : (s t : State Tall) → AreAlike s t → s.names ≡ t.names
+same_names s t e = ap (λ (x : State Tall). x.names) e
+
+same_gives : {W : Type 0} (w : W) (s t : State Tall) → AreAlike s t → Same (gives w s) (gives w t)
+same_gives w s t e = ap (λ x. gives w x) e
+
+same_stops : {W : Type 0} (stop : Stop) (s t : State Tall) → AreAlike s t → ◌≡◌ {A = Valued W (State Tall)} (stops stop (sizeless_state s)) (stops stop (sizeless_state t))
+same_stops stop s t e = ap (λ x. stops stop x) e
+
+-- ---- mapreduce
+
+none_there : (d : Option Store) → is_some (option_map sizeless d) ≡ is_some d
+none_there None = refl
+none_there (Some d) = refl
+
+refused_alike : (files : Files) (at : At) (d : Option Store) (m r : Option SeenFunction) (s : State Tall) → (is_some d && (is_some m && is_some r)) ≡ false
+    → Same (reduce_store files at (option_map sizeless d) m r (sizeless_state s)) (reduce_store files at d m r s)
+refused_alike files at None m r s h = stopped_twice _ s
+refused_alike files at (Some d) None r s h = stopped_twice _ s
+refused_alike files at (Some d) (Some m) None s h = stopped_twice _ s
+refused_alike files at (Some d) (Some m) (Some r) s h = absurd (true≢false h)
+
+reduces_alike : (setting : Setting) (a : Result (ℕ × List ℕ × List ℕ) Refusal) (s : State Tall) → reduces_store setting a (sizeless_state s) ≡ reduces_store setting a s
+reduces_alike setting (Ok a) s =
+    ap (λ b. b && (is_some (function_in setting.functions a.1) && is_some (function_in setting.functions a.2))) (ap (λ (d : Option Store). is_some d) (get_each s.stores a.0) ∙ none_there (slice_get s.stores a.0))
+reduces_alike setting (Err e) s = refl
+
+mapreduce_same : (setting : Setting) (at : At) (a : Result (ℕ × List ℕ × List ℕ) Refusal) (s : State Tall) → reduces_store setting a s ≡ false
+    → Same (mapreduce_with setting at a (sizeless_state s)) (mapreduce_with setting at a s)
+mapreduce_same setting at (Ok a) s h =
+    ap (λ d. sizeless_valued (reduce_store setting.files at d (function_in setting.functions a.1) (function_in setting.functions a.2) (sizeless_state s))) (get_each s.stores a.0)
+    ∙ refused_alike setting.files at (slice_get s.stores a.0) (function_in setting.functions a.1) (function_in setting.functions a.2) s h
+mapreduce_same setting at (Err e) s h = stopped_twice _ s
+
+-- ---- lists of calls
+
+all_behind : {X : Type 0} (P : X → Type 0) (xs ys : List X) → All P (xs ++ ys) → All P ys
+all_behind P [] ys h = h
+all_behind P (x ∷ xs) ys h = all_behind P xs ys (All-tail P x (xs ++ ys) h)
+
+unlisted_with : {W S C : Type 0} (calls : C) (v : Valued W S) → unlisted (with_calls calls v) ≡ v
+unlisted_with calls (gives w s) = refl
+unlisted_with calls (stops stop s) = refl
+
+all_front : {X : Type 0} (P : X → Type 0) (xs ys : List X) → All P (xs ++ ys) → All P xs
+all_front P [] ys h = All-nil P
+all_front P (x ∷ xs) ys h = All-cons P x xs (All-head P x (xs ++ ys) h) (all_front P xs ys (All-tail P x (xs ++ ys) h))
+
 module _ (setting : Setting) where
-  one_call : (n l : ℕ) (f : ScriptFunction) (args : List (Argument TallValue)) (s : State Tall) → is_mapreduce f ≡ false
+  abbrev L : Language ScriptFunction TallValue (State Tall)
+  L = script_language setting
+
+  abbrev Listed : Type 0
+  Listed = State Tall × List ScriptCall
+
+  abbrev LL : Language ScriptFunction TallValue Listed
+  LL = listing L
+
+  -- no call that is listed runs a mapreduce
+  abbrev Quiet : {W : Type 0} → Valued W Listed → Type 0
+  Quiet v = All (ReducesNothing setting) (state_after v).1
+
+  abbrev Grows : Listed → Listed → Type 0
+  Grows s t = (more : List ScriptCall) × (t.1 ≡ s.1 ++ more)
+
+  grows_kept : IsKept Grows
+  grows_kept = record {
+    nothing = λ s. ([], sym (append-nil s.1));
+    both = λ s t u h k. (h.0 ++ k.0, k.1 ∙ ap (λ cs. cs ++ k.0) h.1 ∙ append_assoc s.1 h.0 k.0);
+  }
+
+  one_listed : (calls : List ScriptCall) (c : ScriptCall) (s : State Tall) (r : Valued TallValue (State Tall)) → Grows (s, calls) (state_after (with_calls (calls ++ c ∷ []) r))
+  one_listed calls c s (gives v t) = (c ∷ [], refl)
+  one_listed calls c s (stops stop t) = (c ∷ [], refl)
+
+  calls_grow : CallsKeep LL Grows
+  calls_grow n l f args s = one_listed s.1 (record { function = f; arguments = args; state = s.0 }) s.0 (L.call n l f args s.0)
+
+  value_grows : (e : Tree) (s : Listed) → Grows s (state_after (value LL e s))
+  value_grows = value_kept LL Grows grows_kept calls_grow
+
+  arguments_grow : (args : Args) (takes : Bool) (s : Listed) → Grows s (state_after (arguments LL args takes s))
+  arguments_grow = arguments_kept LL Grows grows_kept calls_grow
+
+  -- ---- one call
+
+  one_call : (n l : ℕ) (f : ScriptFunction) (args : List (Argument TallValue)) (s : State Tall) → ReducesNothing setting (record { function = f; arguments = args; state = s })
       → Same (script_call setting (place n l) f args (sizeless_state s)) (script_call setting (place n l) f args s)
   unfolding script_call datastore_call
   one_call n l (OfValues f) args s h = an_answer l s _ _ refl
   one_call n l TabularTextDatastore args s h = stored setting.files (place n l) (options_in args) s
   one_call n l TallOf args s h = an_answer l s _ _ (tall_given setting.files args s)
   one_call n l Gather args s h = one_gather (place n l) (all_of value_given args) s
-  one_call n l MapReduce args s h = absurd (true≢false h)
+  one_call n l MapReduce args s h = mapreduce_same setting (place n l) (reduced_arguments args) s h
   one_call n l ReadAll args s h = an_answer l s _ _ refl
   one_call n l Elsewhere args s h = stopped_twice _ s
 
+  -- the same call reduces nothing in a state that differs in ReadSizes alone
+  still_none : (f : ScriptFunction) (args : List (Argument TallValue)) (s t : State Tall) → AreAlike s t → ReducesNothing setting (record { function = f; arguments = args; state = t })
+      → ReducesNothing setting (record { function = f; arguments = args; state = s })
+  still_none f args s t e h =
+      ap (λ b. is_mapreduce f && b) (sym (reduces_alike setting (reduced_arguments args) s) ∙ ap (reduces_store setting (reduced_arguments args)) e ∙ reduces_alike setting (reduced_arguments args) t) ∙ h
+
+  two_calls : (n l : ℕ) (f : ScriptFunction) (args : List (Argument TallValue)) (s t : State Tall) → AreAlike s t → ReducesNothing setting (record { function = f; arguments = args; state = t })
+      → Same (L.call n l f args s) (L.call n l f args t)
+  two_calls n l f args s t e h =
+      sym (one_call n l f args s (still_none f args s t e h)) ∙ ap (λ x. sizeless_valued (L.call n l f args x)) e ∙ one_call n l f args t h
+
   -- ---- expressions
 
-  abbrev L : Language ScriptFunction TallValue (State Tall)
-  L = script_language setting
+  -- the run from one state does what the listed one from another does, where no listed call runs a mapreduce
+  abbrev Follows : {W : Type 0} → Valued W (State Tall) → Valued W Listed → Type 0
+  Follows u v = Quiet v → Same u (unlisted v)
 
-  choice : {W : Type 0} (b : Bool) (u v w x : Valued W (State Tall)) → Same u w → Same v x → Same (if b then u else v) (if b then w else x)
-  choice true u v w x h k = h
-  choice false u v w x h k = k
+  two_steps : {W X : Type 0} (u : Valued W (State Tall)) (v : Valued W Listed) (f : W → State Tall → Valued X (State Tall)) (g : W → Listed → Valued X Listed) → Follows u v
+      → ((w : W) (t : Listed) → Grows t (state_after (g w t))) → ((w : W) (s : State Tall) (t : Listed) → AreAlike s t.0 → Follows (f w s) (g w t)) → Follows (go_on u f) (go_on v g)
+  unfolding what_given
+  two_steps (gives w s) (gives x t) f g e grows k q =
+      let more = grows x t in
+      let same = e (all_front (ReducesNothing setting) t.1 more.0 (subst (All (ReducesNothing setting)) more.1 q)) in
+      let same_states : sizeless_state s ≡ sizeless_state t.0 = ap (λ (r : Valued _ (State Tall)). state_after r) same in
+      let same_values : w ≡ x = ap (λ r. what_given w r) same in
+      ap (λ y. sizeless_valued (f y s)) same_values ∙ k x s t same_states q
+  two_steps (gives w s) (stops stop t) f g e grows k q = absurd (let same = e q in cc)
+  two_steps (stops stop s) (gives x t) f g e grows k q =
+      let more = grows x t in
+      absurd (let same = e (all_front (ReducesNothing setting) t.1 more.0 (subst (All (ReducesNothing setting)) more.1 q)) in cc)
+  two_steps (stops stop s) (stops other t) f g e grows k q =
+      let same = e q in
+      let same_states : sizeless_state s ≡ sizeless_state t.0 = ap (λ (r : Valued _ (State Tall)). state_after r) same in
+      let same_stops : stop ≡ other = ap (λ (r : Valued _ (State Tall)). elim r [ gives y z ↦ stop | stops p z ↦ p ]) same in
+      ap (λ p. stops p (sizeless_state s)) same_stops ∙ ap (λ y. stops other y) same_states
 
-  abbrev given_argument : TallValue → State Tall → Valued (Argument TallValue) (State Tall)
-  given_argument v t = gives (given v) t
+  two_answers : {W : Type 0} (line : ℕ) (s : State Tall) (t : Listed) (q r : Result W Refusal) → AreAlike s t.0 → q ≡ r → Same (answered line s q) (unlisted (answered line t r))
+  two_answers line s t q (Ok v) e h = ap (λ x. sizeless_valued (answered line s x)) h ∙ same_gives v s t.0 e
+  two_answers line s t q (Err f) e h = ap (λ x. sizeless_valued (answered line s x)) h ∙ same_stops (stop_at line f) s t.0 e
 
-  one_argument : (a : Option (ℕ × List ℕ)) (first : State Tall → Valued TallValue (State Tall)) → ((t : State Tall) → Same (first (sizeless_state t)) (first t)) → (s : State Tall)
-      → Same (argument L a first (sizeless_state s)) (argument L a first s)
-  one_argument None first h s = step (first (sizeless_state s)) (first s) given_argument (h s) (λ v t. given_twice (given v) t)
-  one_argument (Some a) first h s = choice (L.function_is_there a.1) _ _ _ _ (given_twice _ s) (stopped_twice _ s)
+  answer_grows : {W : Type 0} (line : ℕ) (t : Listed) (r : Result W Refusal) → Grows t (state_after (answered line t r))
+  answer_grows line t (Ok v) = grows_kept.nothing t
+  answer_grows line t (Err e) = grows_kept.nothing t
+
+  -- a call that is listed last
+  last_call : (c : ScriptCall) (calls : List ScriptCall) (r : Valued TallValue (State Tall)) → Quiet (with_calls (calls ++ c ∷ []) r) → ReducesNothing setting c
+  last_call c calls (gives v t) q = All-head (ReducesNothing setting) c [] (all_behind (ReducesNothing setting) calls (c ∷ []) q)
+  last_call c calls (stops stop t) q = All-head (ReducesNothing setting) c [] (all_behind (ReducesNothing setting) calls (c ∷ []) q)
+
+  call_follows : (n l : ℕ) (f : ScriptFunction) (args : List (Argument TallValue)) (s : State Tall) (t : Listed) → AreAlike s t.0 → Follows (L.call n l f args s) (LL.call n l f args t)
+  call_follows n l f args s t e q =
+      let c : ScriptCall = record { function = f; arguments = args; state = t.0 } in
+      two_calls n l f args s t.0 e (last_call c t.1 (L.call n l f args t.0) q) ∙ ap (λ x. sizeless_valued x) (sym (unlisted_with (t.1 ++ c ∷ []) (L.call n l f args t.0)))
+
+  on_grows : {W X : Type 0} (t : Listed) (v : Valued W Listed) (g : W → Listed → Valued X Listed) → Grows t (state_after v) → ((w : W) (u : Listed) → Grows u (state_after (g w u)))
+      → Grows t (state_after (go_on v g))
+  on_grows t (gives w u) g h k = grows_kept.both t u (state_after (g w u)) h (k w u)
+  on_grows t (stops stop u) g h k = h
 
   abbrev Rest : Type 0
   Rest = Bool → State Tall → Valued (List (Argument TallValue)) (State Tall)
 
-  of_value : (n l : ℕ) (first : State Tall → Valued TallValue (State Tall)) (rest : Rest) → ((t : State Tall) → Same (first (sizeless_state t)) (first t))
-      → ((takes : Bool) (t : State Tall) → Same (rest takes (sizeless_state t)) (rest takes t)) → (s : State Tall)
-      → Same (call_value L n l a_value first rest (sizeless_state s)) (call_value L n l a_value first rest s)
-  of_value n l first rest h k s =
-      step (first (sizeless_state s)) (first s) (λ v t. go_on (rest false t) (λ args u. answered l u (L.index n l v args))) (h s)
-      (λ v t. step (rest false (sizeless_state t)) (rest false t) (λ args u. answered l u (L.index n l v args)) (k false t) (λ args u. an_answer l u _ _ refl))
+  abbrev ListedRest : Type 0
+  ListedRest = Bool → Listed → Valued (List (Argument TallValue)) Listed
 
-  of_name : (x : List ℕ) (has : Bool) (found : Option ScriptFunction) → reduces found ≡ false → (n l m : ℕ) (first : State Tall → Valued TallValue (State Tall)) (rest : Rest)
-      → ((t : State Tall) → Same (first (sizeless_state t)) (first t)) → ((takes : Bool) (t : State Tall) → Same (rest takes (sizeless_state t)) (rest takes t)) → (s : State Tall)
-      → Same (call_value L n l (if has then a_value else callee_named m x found) first rest (sizeless_state s)) (call_value L n l (if has then a_value else callee_named m x found) first rest s)
-  of_name x true found untold n l m first rest h k s = of_value n l first rest h k s
-  of_name x false None untold n l m first rest h k s = stopped_twice _ s
-  of_name x false (Some f) untold n l m first rest h k s =
-      step (rest (L.takes_handles f) (sizeless_state s)) (rest (L.takes_handles f) s) (λ args t. L.call n l f args t) (k (L.takes_handles f) s) (λ args t. one_call n l f args t untold)
+  argument_follows : (a : Option (ℕ × List ℕ)) (first : State Tall → Valued TallValue (State Tall)) (listed : Listed → Valued TallValue Listed)
+      → ((s : State Tall) (t : Listed) → AreAlike s t.0 → Follows (first s) (listed t)) → (s : State Tall) (t : Listed) → AreAlike s t.0 → Follows (argument L a first s) (argument LL a listed t)
+  argument_follows None first listed h s t e =
+      two_steps (first s) (listed t) (λ v x. gives (given v) x) (λ v x. gives (given v) x) (h s t e) (λ v u. grows_kept.nothing u) (λ v x u i q. same_gives (given v) x u.0 i)
+  argument_follows (Some a) first listed h s t e = by_test (L.function_is_there a.1) where
+    by_test : (b : Bool) → Follows {W = Argument TallValue} (if b then gives (function a.1) s else stops (stop_at a.0 (undefined a.1)) s) (if b then gives (function a.1) t else stops (stop_at a.0 (undefined a.1)) t)
+    by_test true = λ q. same_gives _ s t.0 e
+    by_test false = λ q. same_stops _ s t.0 e
 
-  of_callee : (n l : ℕ) (e : Tree) (first : State Tall → Valued TallValue (State Tall)) (rest : Rest) → is_name_in is_reducing e ≡ false
-      → ((t : State Tall) → Same (first (sizeless_state t)) (first t)) → ((takes : Bool) (t : State Tall) → Same (rest takes (sizeless_state t)) (rest takes t)) → (s : State Tall)
-      → Same (call_value L n l (callee L (sizeless_state s) e) first rest (sizeless_state s)) (call_value L n l (callee L s e) first rest s)
-  of_callee n l (tree i j (trees.number d)) first rest untold h k s = of_value n l first rest h k s
-  of_callee n l (tree i j (trees.text t)) first rest untold h k s = of_value n l first rest h k s
-  of_callee n l (tree i j (trees.name x)) first rest untold h k s = of_name x (L.has_value s x) (script_function_named x) untold n l j first rest h k s
-  of_callee n l (tree i j (trees.list es)) first rest untold h k s = of_value n l first rest h k s
-  of_callee n l (tree i j (trees.handle x)) first rest untold h k s = of_value n l first rest h k s
-  of_callee n l (tree i j (trees.prefixed op e)) first rest untold h k s = of_value n l first rest h k s
-  of_callee n l (tree i j (trees.joined op e f)) first rest untold h k s = of_value n l first rest h k s
-  of_callee n l (tree i j (trees.member e x)) first rest untold h k s = of_value n l first rest h k s
-  of_callee n l (tree i j (trees.call e args)) first rest untold h k s = of_value n l first rest h k s
+  module _ (n l : ℕ) (first : State Tall → Valued TallValue (State Tall)) (listed : Listed → Valued TallValue Listed) (rest : Rest) (listed_rest : ListedRest)
+      (firsts : (s : State Tall) (t : Listed) → AreAlike s t.0 → Follows (first s) (listed t))
+      (rests : (takes : Bool) (s : State Tall) (t : Listed) → AreAlike s t.0 → Follows (rest takes s) (listed_rest takes t))
+      (rest_grows : (takes : Bool) (t : Listed) → Grows t (state_after (listed_rest takes t))) where
+    index_follows : (s : State Tall) (t : Listed) → AreAlike s t.0 → Follows (call_value L n l a_value first rest s) (call_value LL n l a_value listed listed_rest t)
+    index_follows s t e =
+        two_steps (first s) (listed t) (λ v x. go_on (rest false x) (λ args u. answered l u (L.index n l v args))) (λ v x. go_on (listed_rest false x) (λ args u. answered l u (LL.index n l v args))) (firsts s t e)
+        (λ v u. on_grows u (listed_rest false u) (λ args y. answered l y (LL.index n l v args)) (rest_grows false u) (λ args y. answer_grows l y (LL.index n l v args)))
+        (λ v x u i. two_steps (rest false x) (listed_rest false u) (λ args y. answered l y (L.index n l v args)) (λ args y. answered l y (LL.index n l v args)) (rests false x u i)
+          (λ args y. answer_grows l y (LL.index n l v args)) (λ args y z j q. two_answers l y z (L.index n l v args) (L.index n l v args) j refl))
 
-  not_true : (b : Bool) → not b ≡ true → b ≡ false
-  not_true false h = refl
-  not_true true h = absurd (true≢false (sym h))
+    named_follows : (line : ℕ) (name : List ℕ) (has listed_has : Bool) → has ≡ listed_has → (found : Option ScriptFunction) (s : State Tall) (t : Listed) → AreAlike s t.0
+        → Follows (call_value L n l (if has then a_value else callee_named line name found) first rest s) (call_value LL n l (if listed_has then a_value else callee_named line name found) listed listed_rest t)
+    named_follows line name true true same found s t e = index_follows s t e
+    named_follows line name true false same found s t e = absurd (true≢false same)
+    named_follows line name false true same found s t e = absurd (true≢false (sym same))
+    named_follows line name false false same None s t e = λ q. same_stops _ s t.0 e
+    named_follows line name false false same (Some f) s t e =
+        two_steps (rest (L.takes_handles f) s) (listed_rest (L.takes_handles f) t) (λ args x. L.call n l f args x) (λ args x. LL.call n l f args x) (rests (L.takes_handles f) s t e)
+        (λ args u. calls_grow n l f args u) (λ args x u i. call_follows n l f args x u i)
+
+    callee_follows : (e : Tree) (s : State Tall) (t : Listed) → AreAlike s t.0 → Follows (call_value L n l (callee L s e) first rest s) (call_value LL n l (callee LL t e) listed listed_rest t)
+    callee_follows (tree i j (trees.number d)) s t e = index_follows s t e
+    callee_follows (tree i j (trees.text x)) s t e = index_follows s t e
+    callee_follows (tree i j (trees.name x)) s t e =
+        named_follows j x (L.has_value s x) (L.has_value t.0 x) (ap (λ (names : List (List ℕ × TallValue)). is_some (named names x)) (same_names s t.0 e)) (script_function_named x) s t e
+    callee_follows (tree i j (trees.list es)) s t e = index_follows s t e
+    callee_follows (tree i j (trees.handle x)) s t e = index_follows s t e
+    callee_follows (tree i j (trees.prefixed op a)) s t e = index_follows s t e
+    callee_follows (tree i j (trees.joined op a b)) s t e = index_follows s t e
+    callee_follows (tree i j (trees.member a x)) s t e = index_follows s t e
+    callee_follows (tree i j (trees.call a args)) s t e = index_follows s t e
 
   mutual
-    value_same : (e : Tree) (s : State Tall) → calls_none is_reducing e ≡ true → Same (value L e (sizeless_state s)) (value L e s)
-    value_same (tree n l (trees.number d)) s none = given_twice _ s
-    value_same (tree n l (trees.text t)) s none = given_twice _ s
-    value_same (tree n l (trees.name x)) s none = an_answer l s _ _ refl
-    value_same (tree n l (trees.list es)) s none = given_twice _ s
-    value_same (tree n l (trees.handle x)) s none = stopped_twice _ s
-    value_same (tree n l (trees.prefixed op e)) s none =
-        step (value L e (sizeless_state s)) (value L e s) (λ v t. answered l t (L.prefix_value n l op v)) (value_same e s none) (λ v t. an_answer l t _ _ refl)
-    value_same (tree n l (trees.joined op e f)) s none =
-        let both = and_parts (calls_none is_reducing e) (calls_none is_reducing f) none in
-        step (value L e (sizeless_state s)) (value L e s) (λ v t. go_on (value L f t) (λ w u. answered l u (L.infix_value n l op v w))) (value_same e s both.0)
-        (λ v t. step (value L f (sizeless_state t)) (value L f t) (λ w u. answered l u (L.infix_value n l op v w)) (value_same f t both.1) (λ w u. an_answer l u _ _ refl))
-    value_same (tree n l (trees.member e x)) s none =
-        step (value L e (sizeless_state s)) (value L e s) (λ v t. answered l t (L.member v x)) (value_same e s none) (λ v t. an_answer l t _ _ refl)
-    value_same (tree n l (trees.call e args)) s none =
-        let one = and_parts (not (is_name_in is_reducing e)) (calls_none is_reducing e && calls_none_in is_reducing args) none in
-        let two = and_parts (calls_none is_reducing e) (calls_none_in is_reducing args) one.1 in
-        of_callee n l e (λ t. value L e t) (λ takes t. arguments L args takes t) (not_true (is_name_in is_reducing e) one.0) (λ t. value_same e t two.0) (λ takes t. arguments_same args takes t two.1) s
+    value_follows : (a : Tree) (s : State Tall) (t : Listed) → AreAlike s t.0 → Follows (value L a s) (value LL a t)
+    value_follows (tree n l (trees.number d)) s t e = λ q. same_gives _ s t.0 e
+    value_follows (tree n l (trees.text x)) s t e = λ q. same_gives _ s t.0 e
+    value_follows (tree n l (trees.name x)) s t e = λ q. two_answers l s t (L.name s x) (L.name t.0 x) e (ap (λ (names : List (List ℕ × TallValue)). read_name x (named names x)) (same_names s t.0 e))
+    value_follows (tree n l (trees.list es)) s t e = λ q. same_gives _ s t.0 e
+    value_follows (tree n l (trees.handle x)) s t e = λ q. same_stops _ s t.0 e
+    value_follows (tree n l (trees.prefixed op a)) s t e =
+        two_steps (value L a s) (value LL a t) (λ v x. answered l x (L.prefix_value n l op v)) (λ v x. answered l x (LL.prefix_value n l op v)) (value_follows a s t e)
+        (λ v u. answer_grows l u (LL.prefix_value n l op v)) (λ v x u i q. two_answers l x u (L.prefix_value n l op v) (L.prefix_value n l op v) i refl)
+    value_follows (tree n l (trees.joined op a b)) s t e =
+        two_steps (value L a s) (value LL a t) (λ v x. go_on (value L b x) (λ w y. answered l y (L.infix_value n l op v w))) (λ v x. go_on (value LL b x) (λ w y. answered l y (LL.infix_value n l op v w)))
+        (value_follows a s t e)
+        (λ v u. on_grows u (value LL b u) (λ w y. answered l y (LL.infix_value n l op v w)) (value_grows b u) (λ w y. answer_grows l y (LL.infix_value n l op v w)))
+        (λ v x u i. two_steps (value L b x) (value LL b u) (λ w y. answered l y (L.infix_value n l op v w)) (λ w y. answered l y (LL.infix_value n l op v w)) (value_follows b x u i)
+          (λ w y. answer_grows l y (LL.infix_value n l op v w)) (λ w y z j q. two_answers l y z (L.infix_value n l op v w) (L.infix_value n l op v w) j refl))
+    value_follows (tree n l (trees.member a x)) s t e =
+        two_steps (value L a s) (value LL a t) (λ v y. answered l y (L.member v x)) (λ v y. answered l y (LL.member v x)) (value_follows a s t e)
+        (λ v u. answer_grows l u (LL.member v x)) (λ v y u i q. two_answers l y u (L.member v x) (L.member v x) i refl)
+    value_follows (tree n l (trees.call a args)) s t e =
+        callee_follows n l (λ x. value L a x) (λ x. value LL a x) (λ takes x. arguments L args takes x) (λ takes x. arguments LL args takes x)
+        (λ x y i. value_follows a x y i) (λ takes x y i. arguments_follow args takes x y i) (λ takes y. arguments_grow args takes y) a s t e
 
-    arguments_same : (args : Args) (takes : Bool) (s : State Tall) → calls_none_in is_reducing args ≡ true → Same (arguments L args takes (sizeless_state s)) (arguments L args takes s)
-    arguments_same no_args takes s none = given_twice _ s
-    arguments_same (value_arg e args) takes s none =
-        let both = and_parts (calls_none is_reducing e) (calls_none_in is_reducing args) none in
-        step (argument L (handle_in takes e) (λ t. value L e t) (sizeless_state s)) (argument L (handle_in takes e) (λ t. value L e t) s)
-        (λ a t. go_on (arguments L args takes t) (λ rest u. gives (a ∷ rest) u)) (one_argument (handle_in takes e) (λ t. value L e t) (λ t. value_same e t both.0) s)
-        (λ a t. step (arguments L args takes (sizeless_state t)) (arguments L args takes t) (λ rest u. gives (a ∷ rest) u) (arguments_same args takes t both.1) (λ rest u. given_twice _ u))
-    arguments_same (colon_arg args) takes s none =
-        step (arguments L args takes (sizeless_state s)) (arguments L args takes s) (λ rest t. gives (colon ∷ rest) t) (arguments_same args takes s none) (λ rest t. given_twice _ t)
+    arguments_follow : (args : Args) (takes : Bool) (s : State Tall) (t : Listed) → AreAlike s t.0 → Follows (arguments L args takes s) (arguments LL args takes t)
+    arguments_follow no_args takes s t e = λ q. same_gives _ s t.0 e
+    arguments_follow (value_arg a args) takes s t e =
+        two_steps (argument L (handle_in takes a) (λ x. value L a x) s) (argument LL (handle_in takes a) (λ x. value LL a x) t)
+        (λ b x. go_on (arguments L args takes x) (λ rest u. gives (b ∷ rest) u)) (λ b x. go_on (arguments LL args takes x) (λ rest u. gives (b ∷ rest) u))
+        (argument_follows (handle_in takes a) (λ x. value L a x) (λ x. value LL a x) (λ x y i. value_follows a x y i) s t e)
+        (λ b u. on_grows u (arguments LL args takes u) (λ rest y. gives (b ∷ rest) y) (arguments_grow args takes u) (λ rest y. grows_kept.nothing y))
+        (λ b x u i. two_steps (arguments L args takes x) (arguments LL args takes u) (λ rest y. gives (b ∷ rest) y) (λ rest y. gives (b ∷ rest) y) (arguments_follow args takes x u i)
+          (λ rest y. grows_kept.nothing y) (λ rest y z j q. same_gives (b ∷ rest) y z.0 j))
+    arguments_follow (colon_arg args) takes s t e =
+        two_steps (arguments L args takes s) (arguments LL args takes t) (λ rest x. gives (colon ∷ rest) x) (λ rest x. gives (colon ∷ rest) x) (arguments_follow args takes s t e)
+        (λ rest y. grows_kept.nothing y) (λ rest x u i q. same_gives (colon ∷ rest) x u.0 i)
+
+  -- without lists
+  plain_value : (a : Tree) (s t : State Tall) → AreAlike s t → All (ReducesNothing setting) (calls_made L a t) → Same (script_value setting a s) (script_value setting a t)
+  plain_value a s t e q = value_follows a s (t, []) e q ∙ ap (λ r. sizeless_valued r) (value_unlisted L a (t, []))
+
+  plain_arguments : (args : Args) (s t : State Tall) → AreAlike s t → All (ReducesNothing setting) (calls_in_arguments L args false t) → Same (arguments L args false s) (arguments L args false t)
+  plain_arguments args s t e q = arguments_follow args false s (t, []) e q ∙ ap (λ r. sizeless_valued r) (arguments_unlisted L args false (t, []))
 
   -- ---- statements
 
@@ -441,40 +605,77 @@ module _ (setting : Setting) where
   by_itself shown (tree n l (trees.member e x)) v s = assigns shown (codes "ans") v s
   by_itself shown (tree n l (trees.call e args)) v s = assigns shown (codes "ans") v s
 
-  body_same : (line : ℕ) (shown : Bool) (b : Body) (s : State Tall) → reduces_none b ≡ true → Alike (body setting line shown b (sizeless_state s)) (body setting line shown b s)
-  body_same line shown (assigned name e) s none =
-      do_step (script_value setting e (sizeless_state s)) (script_value setting e s) (assign shown name) (value_same e s none) (λ v t. assigns shown name v t)
-  body_same line shown (trees.gathered names args) s none =
-      do_step (arguments L args false (sizeless_state s)) (arguments L args false s) (λ ws t. gather_into line shown names (all_of value_given ws) t) (arguments_same args false s none)
-      (λ ws t. into line shown names (all_of value_given ws) t)
-  body_same line shown (property name p e) s none =
-      do_step (script_value setting e (sizeless_state s)) (script_value setting e s)
-      (λ v t. put_store line shown name (and_then (datastore_named t.stores name (read_name name (named t.names name))) (changed_store p v)) t) (value_same e s none)
-      (λ v t. put_same line shown name (and_then (datastore_named (map sizeless t.stores) name (read_name name (named t.names name))) (changed_store p v))
-      (and_then (datastore_named t.stores name (read_name name (named t.names name))) (changed_store p v)) t (property_same name p v t.stores (read_name name (named t.names name))))
-  body_same line shown (bare e) s none =
-      do_step (script_value setting e (sizeless_state s)) (script_value setting e s) (alone shown e) (value_same e s none) (λ v t. by_itself shown e v t)
+  body_same : (line : ℕ) (shown : Bool) (b : Body) (s t : State Tall) → AreAlike s t → All (ReducesNothing setting) (calls_in_body setting b t) → Alike (body setting line shown b s) (body setting line shown b t)
+  body_same line shown (assigned name e) s t h q = do_step (script_value setting e s) (script_value setting e t) (assign shown name) (plain_value e s t h q) (λ v x. assigns shown name v x)
+  body_same line shown (trees.gathered names args) s t h q =
+      do_step (arguments L args false s) (arguments L args false t) (λ ws x. gather_into line shown names (all_of value_given ws) x) (plain_arguments args s t h q) (λ ws x. into line shown names (all_of value_given ws) x)
+  body_same line shown (property name p e) s t h q =
+      do_step (script_value setting e s) (script_value setting e t)
+      (λ v x. put_store line shown name (and_then (datastore_named x.stores name (read_name name (named x.names name))) (changed_store p v)) x) (plain_value e s t h q)
+      (λ v x. put_same line shown name (and_then (datastore_named (map sizeless x.stores) name (read_name name (named x.names name))) (changed_store p v))
+      (and_then (datastore_named x.stores name (read_name name (named x.names name))) (changed_store p v)) x (property_same name p v x.stores (read_name name (named x.names name))))
+  body_same line shown (bare e) s t h q = do_step (script_value setting e s) (script_value setting e t) (alone shown e) (plain_value e s t h q) (λ v x. by_itself shown e v x)
 
   -- ---- runs
 
-  run_step : (d e : Done) (rest : State Tall → Run) → Alike d e → ((t : State Tall) → sizeless_run (rest (sizeless_state t)) ≡ sizeless_run (rest t)) → sizeless_run (next d rest) ≡ sizeless_run (next e rest)
-  run_step (shows text s) (shows other t) rest h k =
+  run_step : (d e : Done) (rest : State Tall → Run) (P : State Tall → Type 0) → Alike d e → AfterDone e P
+      → ((s t : State Tall) → AreAlike s t → P t → sizeless_run (rest s) ≡ sizeless_run (rest t)) → sizeless_run (next d rest) ≡ sizeless_run (next e rest)
+  run_step (shows text s) (shows other t) rest P h p k =
       let same_states : sizeless_state s ≡ sizeless_state t = ap (λ d. elim d as (λ x. State Tall) [ shows x y ↦ y | fails x y ↦ y ]) h in
       let same_texts : text ≡ other = ap (λ d. elim d as (λ x. List ℕ) [ shows x y ↦ x | fails x y ↦ text ]) h in
-      ap (λ x. sizeless_run (behind x (rest s))) same_texts
-      ∙ ap (λ r. behind other r) (sym (k s) ∙ ap (λ y. sizeless_run (rest y)) same_states ∙ k t)
-  run_step (shows text s) (fails stop t) rest h k = absurd cc
-  run_step (fails stop s) (shows text t) rest h k = absurd cc
-  run_step (fails stop s) (fails other t) rest h k =
+      ap (λ x. sizeless_run (behind x (rest s))) same_texts ∙ ap (λ r. behind other r) (k s t same_states p)
+  run_step (shows text s) (fails stop t) rest P h p k = absurd cc
+  run_step (fails stop s) (shows text t) rest P h p k = absurd cc
+  run_step (fails stop s) (fails other t) rest P h p k =
       ap (λ d. elim d as (λ x. Run) [ shows x y ↦ record { text = []; ending = None; state = y } | fails x y ↦ record { text = []; ending = Some x; state = y } ]) h
 
-  run_sizeless : (entries : List SeenStatement) (s : State Tall) → reduce_none entries ≡ true → sizeless_run (run_from setting entries (sizeless_state s)) ≡ sizeless_run (run_from setting entries s)
-  run_sizeless [] s none = ap (λ t. record { text = []; ending = None; state = t }) (twice s)
-  run_sizeless (entry ∷ entries) s none =
-      let both = and_parts (reduces_none entry.form) (reduce_none entries) none in
-      run_step (statement setting entry (sizeless_state s)) (statement setting entry s) (λ t. run_from setting entries t) (body_same entry.line entry.shown entry.form s both.0)
-      (λ t. run_sizeless entries t both.1)
+  runs_alike : (entries : List SeenStatement) (s t : State Tall) → AreAlike s t → RunsNone setting entries t → sizeless_run (run_from setting entries s) ≡ sizeless_run (run_from setting entries t)
+  runs_alike [] s t e none = ap (λ x. record { text = []; ending = None; state = x }) e
+  runs_alike (entry ∷ entries) s t e none =
+      run_step (statement setting entry s) (statement setting entry t) (λ x. run_from setting entries x) (RunsNone setting entries) (body_same entry.line entry.shown entry.form s t e none.0) none.1
+      (λ x y i p. runs_alike entries x y i p)
 
-  pub same_run : (entries : List SeenStatement) (s t : State Tall) → reduce_none entries ≡ true → sizeless_state s ≡ sizeless_state t
+  pub same_run : (entries : List SeenStatement) (s t : State Tall) → RunsNone setting entries s → sizeless_state s ≡ sizeless_state t
       → sizeless_run (run_from setting entries s) ≡ sizeless_run (run_from setting entries t)
-  same_run entries s t none e = sym (run_sizeless entries s none) ∙ ap (λ y. sizeless_run (run_from setting entries y)) e ∙ run_sizeless entries t none
+  same_run entries s t none e = sym (runs_alike entries t s (sym e) none)
+
+  -- ---- by names
+
+  abbrev NoneMore : Listed → Listed → Type 0
+  NoneMore s t = (more : List ScriptCall) × (t.1 ≡ s.1 ++ more) × All (ReducesNothing setting) more
+
+  none_more_kept : IsKept NoneMore
+  none_more_kept = record {
+    nothing = λ s. ([], sym (append-nil s.1), All-nil (ReducesNothing setting));
+    both = λ s t u h k. (h.0 ++ k.0, k.1 ∙ ap (λ cs. cs ++ k.0) h.1 ∙ append_assoc s.1 h.0 k.0, All-append (ReducesNothing setting) h.0 k.0 h.2 k.2);
+  }
+
+  other_call : (calls : List ScriptCall) (c : ScriptCall) (s : State Tall) (r : Valued TallValue (State Tall)) → is_mapreduce c.function ≡ false → NoneMore (s, calls) (state_after (with_calls (calls ++ c ∷ []) r))
+  other_call calls c s (gives v t) h = (c ∷ [], refl, All-cons (ReducesNothing setting) c [] (ap (λ b. b && reduces_store setting (reduced_arguments c.arguments) c.state) h) (All-nil (ReducesNothing setting)))
+  other_call calls c s (stops stop t) h = (c ∷ [], refl, All-cons (ReducesNothing setting) c [] (ap (λ b. b && reduces_store setting (reduced_arguments c.arguments) c.state) h) (All-nil (ReducesNothing setting)))
+
+  other_names : CallsKeepBut is_reducing LL NoneMore
+  other_names name n l f args s there untold =
+      other_call s.1 (record { function = f; arguments = args; state = s.0 }) s.0 (L.call n l f args s.0) (sym (ap reduces there) ∙ untold)
+
+  from_list : (s : State Tall) (t : Listed) → NoneMore (s, []) t → All (ReducesNothing setting) t.1
+  from_list s t h = subst (All (ReducesNothing setting)) (sym h.1) h.2
+
+  quiet_value : (e : Tree) (s : State Tall) → calls_none is_reducing e ≡ true → All (ReducesNothing setting) (calls_made L e s)
+  quiet_value e s none = from_list s (state_after (value LL e (s, []))) (value_kept_but LL NoneMore none_more_kept is_reducing other_names e (s, []) none)
+
+  quiet_body : (b : Body) (s : State Tall) → reduces_none b ≡ true → All (ReducesNothing setting) (calls_in_body setting b s)
+  quiet_body (assigned name e) s none = quiet_value e s none
+  quiet_body (trees.gathered names args) s none = from_list s (state_after (arguments LL args false (s, []))) (arguments_kept_but LL NoneMore none_more_kept is_reducing other_names args false (s, []) none)
+  quiet_body (property name p e) s none = quiet_value e s none
+  quiet_body (bare e) s none = quiet_value e s none
+
+  after_any : (d : Done) (P : State Tall → Type 0) → ((t : State Tall) → P t) → AfterDone d P
+  after_any (shows text t) P h = h t
+  after_any (fails stop t) P h = tt
+
+  pub uncalled : (entries : List SeenStatement) (s : State Tall) → reduce_none entries ≡ true → RunsNone setting entries s
+  uncalled [] s none = tt
+  uncalled (entry ∷ entries) s none =
+      let both = and_parts (reduces_none entry.form) (reduce_none entries) none in
+      (quiet_body entry.form s both.0, after_any (statement setting entry s) (RunsNone setting entries) (λ t. uncalled entries t both.1))

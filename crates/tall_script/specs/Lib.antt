@@ -24,3 +24,4 @@ pub mod MapReduceLaws
 pub mod StoreArgumentRows
 pub mod BlockLaws
 pub mod VertexLaws
+pub mod AddedValues

@@ -1,5 +1,5 @@
 //! Laws of the definitions, each the contract of a function without a body.
-ghost use Rattle.std.specs.Prelude.{◌≡◌, ◌≤◌, ◌++◌, ℕ, Bool, true, List, [], ◌∷◌, length, map, slice_get, Some, Result};
+ghost use Rattle.std.specs.Prelude.{◌≡◌, ◌≤◌, ◌++◌, ℕ, Bool, true, List, [], ◌∷◌, length, map, slice_get, Ok, Some, Result};
 ghost use Rattle.std.specs.List.{All, flat_map};
 ghost use Rattle.tall_column.specs.Columns.{SeenColumn};
 ghost use Rattle.tall_cut.specs.declared.cutter.ReadSize.{ReadSize};
@@ -28,18 +28,21 @@ ghost use Rattle.tall_script.specs.OpeningLaws.{IsQuiet, opens_none};
 ghost use Rattle.tall_script.specs.RunLaws.{BeginsWith, IsRunOf, continued};
 ghost use Rattle.tall_script.specs.Runs.{run_from};
 ghost use Rattle.tall_script.specs.ScriptLanguage.{Setting, script_language, script_value};
-ghost use Rattle.tall_script.specs.ScriptValues.{TallValue};
-ghost use Rattle.tall_script.specs.SizeLaws.{opened_in, reduce_none, resized, sizeless_run, sizeless_state, with_size};
+ghost use Rattle.tall_script.specs.ScriptValues.{TallValue, application_value, index_value_of};
+ghost use Rattle.tall_script.specs.SizeLaws.{RunsNone, opened_in, reduce_none, resized, sizeless_run, sizeless_state, with_size};
 ghost use Rattle.tall_script.specs.Statements.{body};
 ghost use Rattle.tall_script.specs.States.{State, Store, empty_state, times_allowed};
 ghost use Rattle.tall_script.specs.StatesFollow.{Follows, done_state};
 ghost use Rattle.tall_script.specs.TallTables.{tall_of_store};
+ghost use Rattle.tall_local.specs.Applications.{Application};
+ghost use Rattle.tall_local.specs.Arguments.{Index, index_by};
+ghost use Rattle.tall_script.specs.AddedValues.{AddsFor, AddsForIndex, AreInGraph, IndexIsInGraph, IsInGraph, PlacedValue, application_by, value_by};
 ghost use Rattle.tall_script.specs.VertexLaws.{Adds, IsLower, MayFollow, MayStandBeside, variable_of};
-ghost use Rattle.tall_semantics.specs.Deferred.{Vertex};
+ghost use Rattle.tall_semantics.specs.Deferred.{IsMeaning, Vertex};
 ghost use Rattle.tall_semantics.specs.Faults.{At};
 ghost use Rattle.tall_value.specs.declared.class.Class.{Class};
 ghost use Rattle.tall_script.specs.WellFormed.{GivesStanding, GiveStanding, HaveNoFault, IsWellFormed, Stands};
-ghost use Rattle.tall_semantics.specs.Talls.{Tall};
+ghost use Rattle.tall_semantics.specs.Talls.{Columns, Tall};
 ghost use Rattle.tall_store.specs.Opening.{opening};
 ghost use Rattle.tall_store.specs.Options.{SeenOptions, is_size};
 ghost use Rattle.tall_store.specs.declared.faults.ReadingFault.{ReadingFault};
@@ -72,6 +75,18 @@ pub fn wholes_are_above_their_parts()
 pub fn added_vertices_keep_the_numbers()
     ensures expressions { (vs ws : List Vertex) (at : At) → All (IsLower at) vs → Adds at (length vs) ws → MayFollow vs ws }
     ensures variables { (vs : List Vertex) (at : At) (place : ℕ) (xs : List (ℕ × Class)) → All (MayStandBeside at place) vs → MayFollow vs (map (variable_of at place) xs) }
+{}
+
+/// The vertices that an operator, a function or an index adds to a graph, in order, are those of which its values are solutions: in
+/// any solution of the longer graph the word of the definitions over the values of the operands is the value of the added places. They
+/// stand in one of the forms that keep the numbers.
+pub fn values_are_those_of_added_vertices()
+    ensures applications { (columns : Columns) (f : ℕ → Tall) (vs ws : List Vertex) (at : At) (a : Application PlacedValue) (w : PlacedValue) → AddsFor at (length vs) a ws w
+        → IsMeaning columns (vs ++ ws) f → application_value at (application_by f a) ≡ Ok (value_by f w) }
+    ensures indexes { (columns : Columns) (f : ℕ → Tall) (vs ws : List Vertex) (at : At) (v : PlacedValue) (i : Index PlacedValue) (w : PlacedValue) → AddsForIndex at (length vs) v i ws w
+        → IsMeaning columns (vs ++ ws) f → index_value_of at (value_by f v) (Some (index_by (value_by f) i)) ≡ Ok (value_by f w) }
+    ensures added { (at : At) (n : ℕ) (a : Application PlacedValue) (ws : List Vertex) (w : PlacedValue) → AddsFor at n a ws w → AreInGraph n a → Adds at n ws }
+    ensures added_by_index { (at : At) (n : ℕ) (v : PlacedValue) (i : Index PlacedValue) (ws : List Vertex) (w : PlacedValue) → AddsForIndex at n v i ws w → IsInGraph n v → IndexIsInGraph n i → Adds at n ws }
 {}
 
 /// For each name of a script and files there is exactly one answer, and one number of times that a file may be opened.
@@ -120,13 +135,14 @@ pub fn calls_that_open_nothing_leave_what_was_opened()
 {}
 
 /// ReadSize changes mapreduce alone. Options with another ReadSize open to the same datastore, in blocks of that size; it leaves
-/// a datastore's tall table, with its values and faults; and statements that do not call mapreduce show and end as they do, also
-/// in their gathers, from states that differ in ReadSizes alone.
+/// a datastore's tall table, with its values and faults; and a run in which no call ran a mapreduce, whatever was written, shows and
+/// ends as one from a state that differs in ReadSizes alone, also in its gathers. None runs where no statement calls `mapreduce`.
 pub fn read_size_changes_mapreduce_alone()
     ensures openings { (size : ReadSize) (o : SeenOptions) (files : Files) → is_size size ≡ true → is_size o.size ≡ true → opening files (with_size size o) ≡ opened_in size (opening files o) }
     ensures tables { (size : ReadSize) (d : Store) (files : Files) (place : ℕ) → tall_of_store files place (Some (resized size d)) ≡ tall_of_store files place (Some d) }
-    ensures runs { (setting : Setting) (entries : List SeenStatement) (s t : State Tall) → reduce_none entries ≡ true → sizeless_state s ≡ sizeless_state t
+    ensures runs { (setting : Setting) (entries : List SeenStatement) (s t : State Tall) → RunsNone setting entries s → sizeless_state s ≡ sizeless_state t
         → sizeless_run (run_from setting entries s) ≡ sizeless_run (run_from setting entries t) }
+    ensures uncalled { (setting : Setting) (entries : List SeenStatement) (s : State Tall) → reduce_none entries ≡ true → RunsNone setting entries s }
 {}
 
 /// Both phases of mapreduce are calls on empty stores, appended in the order of blocks and of keys. So the calls need nothing of
