@@ -1,2 +1,3 @@
 pub mod StoredBlockLaws
 pub mod SampleLaws
+pub mod BlockTables

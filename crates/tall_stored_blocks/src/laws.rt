@@ -1,20 +1,23 @@
 //! Laws of the definitions, the contracts of functions without a body.
-ghost use Rattle.std.specs.Prelude.{◌≡◌, ◌<◌, ℕ, Bool, true, List, None, Option, Some, length, slice_get};
+ghost use Rattle.std.specs.Prelude.{◌≡◌, ◌<◌, ◌≤◌, ◌+◌, ◌^◌, ◌∷◌, ℕ, Bool, true, List, None, Option, Some, length, slice_get};
 ghost use Rattle.tall_outside.specs.Shelf.{Files};
 ghost use Rattle.tall_value.specs.declared.class.Class.{Class};
 ghost use Rattle.tall_cut.specs.Rows.{Fields};
 ghost use Rattle.tall_semantics.specs.Deferred.{IsMeaning, Vertex};
 ghost use Rattle.tall_semantics.specs.InOrder.{tall_in, talls};
 ghost use Rattle.tall_semantics.specs.Operations.{stored};
-ghost use Rattle.tall_semantics.specs.Outcomes.{fault};
+ghost use Rattle.tall_semantics.specs.Outcomes.{fault, rows};
 ghost use Rattle.tall_semantics.specs.Talls.{Columns, Tall};
-ghost use Rattle.tall_blocks.specs.Blocks.{AreAscending, AreBlocksOf, AreTables, IsVariable};
+ghost use Rattle.tall_blocks.specs.Blocks.{AreAscending, AreBlocksOf, AreTables, IsVariable, block_columns};
+ghost use Rattle.tall_column.specs.Columns.{SeenColumn};
+ghost use Rattle.tall_value.specs.Columns.{numbered};
 ghost use Rattle.tall_store.specs.declared.faults.ReadingFault.{ReadingFault};
-ghost use Rattle.tall_store.specs.Blocks.{HasRows, IsCutting, all_blocks, blocks_from};
+ghost use Rattle.tall_store.specs.Blocks.{Block, HasRows, IsCutting, all_blocks, block_variables, blocks_from, first_block_fault};
+ghost use Rattle.tall_store.specs.Stores.{SeenStore};
 ghost use Rattle.tall_store.specs.Stored.{first_fault};
 ghost use Rattle.tall_stored.specs.StoredColumns.{AreStored, Store, fault_of_reading, variable_class};
 ghost use Rattle.tall_stored_blocks.specs.BlocksOfFiles.{held, stores, vertices, y_of_two_files};
-ghost use Rattle.tall_stored_blocks.specs.StoredBlocks.{blocks_of, columns_of};
+ghost use Rattle.tall_stored_blocks.specs.StoredBlocks.{block_of, blocks_of, columns_of};
 
 /// The columns of a list of datastores are stored columns of each graph whose variables are theirs.
 pub fn columns_of_datastores_are_stored()
@@ -42,6 +45,17 @@ pub fn blocks_of_files_are_blocks_of_columns()
     ensures reading { (files : Files) (stores : List Store) (vs : List Vertex) (columns : Columns) → AreStored files stores vs columns → (place : ℕ) (d : Store) → slice_get stores place ≡ Some d
         → (g : ReadingFault) → first_fault d.store files ≡ Some g → (i : ℕ) (v : Vertex) (variable : ℕ) (class : Class) → slice_get vs i ≡ Some v → v.made ≡ stored place variable class
         → columns place variable ≡ fault (fault_of_reading place d.at g) }
+{}
+
+/// A block of records as a table, and its rows in a pass, are the same: each selected variable has the class and the cells of the table's
+/// column, numbered from the block's first row. Where the block has no reading fault, each column has as many cells as the block has
+/// records, and the number behind the last row is at most 2^40.
+pub fn a_block_has_the_rows_of_its_table()
+    ensures variable { (store : SeenStore) (block : Block) (s x : ℕ) → x < length store.selected
+        → (e : List ℕ × SeenColumn) × (slice_get (block_variables store block) x ≡ Some e) × (e.1.class ≡ variable_class store x) × (block_columns (block_of store block) s x ≡ rows (numbered block.row e.1.cells)) }
+    ensures height { (store : SeenStore) (block : Block) → first_block_fault store block ≡ None → (x : ℕ) (e : List ℕ × SeenColumn) → x < length store.selected
+        → slice_get (block_variables store block) x ≡ Some e → length e.1.cells ≡ length block.records }
+    ensures numbers { (store : SeenStore) (block : Block) (fields : Fields) (more : List Fields) → first_block_fault store block ≡ None → block.records ≡ fields ∷ more → block.row + length block.records ≤ 2 ^ 40 }
 {}
 
 /// What these laws ask for can be met: a datastore of two files with a variable, and its sum.
