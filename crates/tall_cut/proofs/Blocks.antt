@@ -298,3 +298,33 @@ pub field_is : (ends : List ℕ) (fields : Fields) (all : List Fields) (i k : �
 field_is ends fields all i k e h lt inside =
     let here = rw (← width_is ends fields all i 0 e h lt) at inside in
     rw (← e) (sym (group_field ends fields i k (place_inside ends fields all i e lt) here))
+
+-- Records of others.
+
+-- the fields of a record, one more
+pub joined_next : (fields : Fields) (k : ℕ) (before now field next : List ℕ) → k < length fields → field ≡ get_or fields k [] → now ≡ before ++ joined (take k fields) → next ≡ now ++ field
+    → next ≡ before ++ joined (take (k + 1) fields)
+joined_next fields k before now field next lt f i n =
+    rw (n, i, f, take_more fields k [] lt, joined_more (take k fields) (get_or fields k [])) (append_assoc before (joined (take k fields)) (get_or fields k []))
+
+-- where they end, one more; `bytes` are those of the fields so far
+pub ends_copied : (fields : Fields) (k : ℕ) (start bytes field next before now ends : List ℕ) (end : ℕ) → k < length fields → field ≡ get_or fields k [] → bytes ≡ start ++ joined (take k fields) → next ≡ bytes ++ field → end ≡ length next
+    → now ≡ before ++ ends_from (length start) (take k fields) → ends ≡ now ++ end ∷ [] → ends ≡ before ++ ends_from (length start) (take (k + 1) fields)
+ends_copied fields k start bytes field next before now ends end lt f b n e i g =
+    let size : length bytes ≡ length start + length (joined (take k fields)) = ap length b ∙ length-append start (joined (take k fields)) in
+    let more : length next ≡ length bytes + length field = ap length n ∙ length-append bytes field in
+    ends_next fields k (length start) (length bytes) (length field) before now ends lt (sym size) (ap length f) i (g ∙ ap (λ m. now ++ m ∷ []) (e ∙ more))
+
+-- a record more
+pub part_next : (all now next : List Fields) (start i : ℕ) → start ≤ i → i < length all → now ≡ take (i - start) (drop start all) → next ≡ now ++ get_or all i [] ∷ []
+    → next ≡ take (i + 1 - start) (drop start all)
+part_next all now next start i low lt is n =
+    let size = length-drop start all in
+    let inside : i - start < length (drop start all) = omega arith in
+    let place : start + (i - start) ≡ i = omega arith in
+    let more : i + 1 - start ≡ (i - start) + 1 = omega arith in
+    rw (n, is, more, take_more (drop start all) (i - start) [] inside, get_or-drop start all (i - start) [], place) refl
+
+pub joined_start : (before : List ℕ) → before ≡ before ++ joined []
+unfolding joined
+joined_start before = sym (append-nil before)

@@ -4,6 +4,7 @@
 #![tactic(auto)]
 
 mod block;
+mod copying;
 pub mod cutter;
 pub mod feed;
 mod opening;

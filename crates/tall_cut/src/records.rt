@@ -1,8 +1,9 @@
 // The records of a block, as a caller sees them.
 
-ghost use Rattle.std.specs.Prelude.{◌≡◌, ◌<◌, [], length, get_or};
+ghost use Rattle.std.specs.Prelude.{◌≡◌, ◌<◌, ◌≤◌, ◌-◌, [], drop, length, get_or, take};
 
 use crate::block::{Block, start_of};
+use crate::copying::copy_records;
 use crate::reading::read_records;
 use std::alloc::{AllocError, Global};
 use std::marker::Model;
@@ -75,6 +76,27 @@ impl Records {
     {
         self.block.clear();
         match read_records(alloc, raw, &mut self.block) {
+            Ok(()) => return Ok(()),
+            Err(_) => {
+                self.block.clear();
+                return Err(AllocError);
+            }
+        }
+    }
+
+    /// Copies the records from place `start` up to place `end` of others, in place of those here, whose memory is used
+    /// again. So blocks of few records are cut from records that were read at once.
+    ///
+    /// Where memory is wanting, no record is here.
+    #[tactic(auto, using(crate::proofs::Blocks::groups_none))]
+    pub fn copy_part(&mut self, from: &Records, start: usize, end: usize) -> Result<(), AllocError>
+        requires start { start ≤ end }
+        requires end { end ≤ length from.now }
+        ensures records { OnOk result (self.new ≡ take (end - start) (drop start from.now)) }
+        ensures none { OnErr result (self.new ≡ []) }
+    {
+        self.block.clear();
+        match copy_records(&mut self.block, from, start, end) {
             Ok(()) => return Ok(()),
             Err(_) => {
                 self.block.clear();
