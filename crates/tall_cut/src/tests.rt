@@ -6,22 +6,32 @@ ghost use Rattle.tall_cut.specs.Asked.{Asks};
 ghost use Rattle.tall_cut.specs.Cuts.{rows_of};
 
 use crate::{
-    Cause, Cutter, FeedFault, Found, Lent, Next, OpenedFile, ReadSize, Records, open_feed,
+    Cause, Cutter, FeedFault, Found, Lent, Next, OpenedFile, RawBlock, ReadSize, Records, open_feed,
 };
 use csv::{ByteRecord, ReaderBuilder};
 use std::alloc::{AllocError, Global};
 use std::marker::Brand;
 use std::process::Abort;
 use std::test::Fail;
+use std::thread::{Threads, join};
 use tall_outside::{MemShelf, Shelf, has_distinct_names};
+
+/// When and where a test reads the records of blocks.
+#[derive(Clone, Copy, Debug, PartialEq, Eq)]
+enum Reading {
+    AtOnce,
+    /// Blocks are found first, two at a time, and then read.
+    Found,
+    /// The same, each read on another thread than the one that found it.
+    FoundElsewhere,
+}
 
 /// How a test reads its file.
 #[derive(Clone, Copy, Debug)]
 struct Plan {
     limit: u64,
     size: ReadSize,
-    /// Whether blocks are found first, two at a time, and then read.
-    raw: bool,
+    reading: Reading,
 }
 
 /// Writes each record as a line of its fields in brackets.
@@ -63,16 +73,34 @@ fn write_next<'s, S: Shelf, K: OpenedFile>(
     Ok(false)
 }
 
+/// Reads the records of a block, on another thread where `elsewhere` says so.
+fn read_block(
+    rt: &impl Threads,
+    alloc: Global,
+    records: &mut Records,
+    raw: &RawBlock,
+    elsewhere: bool,
+) -> Result<(), AllocError> {
+    if elsewhere {
+        let (read, ()) = join(rt, || records.parse(alloc, raw), || ());
+        read
+    } else {
+        records.parse(alloc, raw)
+    }
+}
+
 /// The same of blocks that are found first.
 fn write_raw<'s, S: Shelf, K: OpenedFile>(
+    rt: &impl Threads,
     alloc: Global,
     text: &mut Vec<u8>,
     records: &mut Records,
     cutter: &mut Cutter<'s, S, K>,
+    elsewhere: bool,
 ) -> Result<bool, AllocError> {
     match cutter.next_raw(2) {
         Found::Block(raw) => {
-            records.parse(alloc, &raw)?;
+            read_block(rt, alloc, records, &raw, elsewhere)?;
             write_records(text, records)?;
             cutter.give_back_raw(raw);
             return Ok(true);
@@ -85,10 +113,11 @@ fn write_raw<'s, S: Shelf, K: OpenedFile>(
 
 /// Writes all that a cutter gives, its first record by itself.
 fn write_all<'s, S: Shelf, K: OpenedFile>(
+    rt: &impl Threads,
     alloc: Global,
     text: &mut Vec<u8>,
     cutter: &mut Cutter<'s, S, K>,
-    raw: bool,
+    reading: Reading,
 ) -> Result<(), AllocError> {
     let mut records = Records::new(alloc);
     if let Next::Block(block) = cutter.first_record() {
@@ -96,10 +125,10 @@ fn write_all<'s, S: Shelf, K: OpenedFile>(
         cutter.give_back(block);
     }
     for _turn in 0..1000u32 {
-        let more = if raw {
-            write_raw(alloc, text, &mut records, cutter)?
-        } else {
-            write_next(text, cutter)?
+        let more = match reading {
+            Reading::AtOnce => write_next(text, cutter)?,
+            Reading::Found => write_raw(rt, alloc, text, &mut records, cutter, false)?,
+            Reading::FoundElsewhere => write_raw(rt, alloc, text, &mut records, cutter, true)?,
         };
         if !more {
             break;
@@ -110,6 +139,7 @@ fn write_all<'s, S: Shelf, K: OpenedFile>(
 
 /// Writes all records of a file, or why it could not be opened.
 fn write_file<'s, S: Shelf, K: OpenedFile>(
+    rt: &impl Threads,
     alloc: Global,
     lent: Lent<'s, S>,
     name: &String,
@@ -123,7 +153,7 @@ fn write_file<'s, S: Shelf, K: OpenedFile>(
     match open_feed::<S, K>(lent, name.as_str(), limit) {
         Ok(feed) => {
             let mut cutter: Cutter<'s, S, K> = Cutter::new(alloc, feed, b',', plan.size);
-            let _ = write_all(alloc, text, &mut cutter, plan.raw);
+            let _ = write_all(rt, alloc, text, &mut cutter, plan.reading);
             cutter.into_lent()
         }
         Err(refused) => {
@@ -149,13 +179,27 @@ fn some_rows(size: ReadSize) -> ReadSize
 }
 
 /// The records of a file of this shelf, as text.
-fn text_of<S: Shelf>(alloc: Global, shelf: &mut S, name: &String, plan: Plan) -> Vec<u8> {
+fn text_of<S: Shelf>(
+    rt: &impl Threads,
+    alloc: Global,
+    shelf: &mut S,
+    name: &String,
+    plan: Plan,
+) -> Vec<u8> {
     let mut text = Vec::new(alloc);
     let plan = Plan {
         size: some_rows(plan.size),
         ..plan
     };
-    let _lent = write_file::<S, Brand>(alloc, Lent { shelf }, name, plan.limit, plan, &mut text);
+    let _lent = write_file::<S, Brand>(
+        rt,
+        alloc,
+        Lent { shelf },
+        name,
+        plan.limit,
+        plan,
+        &mut text,
+    );
     text
 }
 
@@ -174,6 +218,8 @@ fn shelf_of(
     Ok(shelf)
 }
 
+const READINGS: [Reading; 3] = [Reading::AtOnce, Reading::Found, Reading::FoundElsewhere];
+
 const SIZES: [ReadSize; 4] = [
     ReadSize::Rows(1),
     ReadSize::Rows(2),
@@ -182,25 +228,26 @@ const SIZES: [ReadSize; 4] = [
 ];
 
 /// Asserts that blocks of each size, found by reads of several lengths, have these records.
-fn assert_cut(
-    rt: &impl Abort,
+fn assert_cut<R: Abort + Threads>(
+    rt: &R,
     alloc: Global,
     bytes: &[u8],
     records: &[u8],
+    readings: &[Reading],
 ) -> Result<(), AllocError> {
     let name = String::from_str(alloc, "a.csv")?;
     let mut wanted = records.to_vec(alloc)?;
     wanted.extend_from_slice(b"end")?;
     for size in SIZES {
-        for raw in [false, true] {
+        for reading in readings {
             for at_most in [1, 7, usize::MAX] {
                 let mut shelf = shelf_of(rt, alloc, bytes, at_most)?;
                 let plan = Plan {
                     limit: 1 << 50,
                     size,
-                    raw,
+                    reading: *reading,
                 };
-                let text = text_of(alloc, &mut shelf, &name, plan);
+                let text = text_of(rt, alloc, &mut shelf, &name, plan);
                 assert!(rt;
                     text.as_slice() == wanted.as_slice(),
                     "{bytes:?}, {plan:?}, {at_most} a read"
@@ -233,7 +280,7 @@ const FILES: [(&[u8], &[u8]); 12] = [
 #[test]
 fn blocks_joined_are_the_records(rt: HostRuntime) -> Result<(), Fail> {
     for (bytes, records) in FILES {
-        assert_cut(&rt, rt.alloc(), bytes, records)?;
+        assert_cut(&rt, rt.alloc(), bytes, records, &READINGS)?;
     }
     Ok(())
 }
@@ -283,7 +330,13 @@ fn random_files_are_read_as_csv_reads_them(rt: HostRuntime) -> Result<(), Fail> 
     for seed in 0..150u64 {
         let bytes = random_text(rt.alloc(), seed)?;
         let records = records_alone(rt.alloc(), bytes.as_slice())?;
-        assert_cut(&rt, rt.alloc(), bytes.as_slice(), records.as_slice())?;
+        assert_cut(
+            &rt,
+            rt.alloc(),
+            bytes.as_slice(),
+            records.as_slice(),
+            &[Reading::AtOnce, Reading::Found],
+        )?;
     }
     Ok(())
 }
@@ -292,21 +345,21 @@ fn random_files_are_read_as_csv_reads_them(rt: HostRuntime) -> Result<(), Fail> 
 fn a_cutter_that_stops_tells_why(rt: HostRuntime) -> Result<(), Fail> {
     let alloc = rt.alloc();
     let name = String::from_str(alloc, "a.csv")?;
-    for raw in [false, true] {
+    for reading in READINGS {
         let plan = Plan {
             limit: 3,
             size: ReadSize::Rows(1),
-            raw,
+            reading,
         };
         let mut shelf = shelf_of(&rt, alloc, b"x\n1\n", 1)?;
-        let text = text_of(alloc, &mut shelf, &name, plan);
+        let text = text_of(&rt, alloc, &mut shelf, &name, plan);
         assert!(rt; text.as_slice() == b"[x];too large".as_slice());
         let mut shelf = shelf_of(&rt, alloc, b"x\n1\n", 1)?;
         shelf.fail_read(4)?;
-        let text = text_of(alloc, &mut shelf, &name, Plan { limit: 4, ..plan });
+        let text = text_of(&rt, alloc, &mut shelf, &name, Plan { limit: 4, ..plan });
         assert!(rt; text.as_slice() == b"[x];failed".as_slice());
         shelf.fail_open(2)?;
-        let text = text_of(alloc, &mut shelf, &name, plan);
+        let text = text_of(&rt, alloc, &mut shelf, &name, plan);
         assert!(rt; text.as_slice() == b"failed to open".as_slice());
     }
     Ok(())
