@@ -1,6 +1,6 @@
 //! One file of a datastore, in blocks that were found and not read.
-ghost use Rattle.std.specs.Prelude.{◌≡◌, ◌<◌, ◌≤◌, ◌^◌, ◌*◌, ◌+◌, IfErr, IfNone, IfOk, IfSome, Some, length};
-ghost use Rattle.tall_outside.specs.OpenedNames.{OpensOnce};
+ghost use Rattle.std.specs.Prelude.{◌≡◌, ◌≢◌, ◌<◌, ◌≤◌, ◌^◌, ◌*◌, ◌+◌, ◌∷◌, [], IfErr, IfNone, IfOk, IfSome, Some, length};
+ghost use Rattle.tall_outside.specs.OpenedNames.{Adds, OpensOnce};
 ghost use Rattle.tall_outside.specs.ShelfCounts.{IsLater, shelf_counts};
 ghost use Rattle.tall_cut.specs.Asked.{Asks, Returns};
 ghost use Rattle.tall_cut.specs.Cuts.{block_rows, cutter_left, cutter_shelf, rows_of};
@@ -173,6 +173,7 @@ impl<'s, S: Shelf, K: OpenedFile> FileRows<'s, S, K> {
         ensures returns { IfErr result (λ e. (Some e.lent.shelf.ghost_name ≡ K.lender) × (S.held e.lent.shelf.now ≡ K.held)) }
         ensures later { IfErr result (λ e. IsLater (opening_counts K.OpenedFile) (shelf_counts S.Shelf e.lent.shelf.now)) }
         ensures once { IfErr result (λ e. OpensOnce (name_of_file store.now file) (S.opened lent.entry.shelf.now) (S.opened e.lent.shelf.now)) }
+        ensures opened { IfErr result (λ e. e.end ≢ FileEnd.Memory → Adds (name_of_file store.now file ∷ []) (S.opened lent.entry.shelf.now) (S.opened e.lent.shelf.now)) }
     {
         match open_feed::<S, K>(lent, store.file_name(file), FILE_LIMIT) {
             Ok(feed) => {
