@@ -465,7 +465,7 @@ module _ (setting : Setting) where
         two_steps (first s) (listed t) (λ v x. go_on (rest false x) (λ args u. answered l u (L.index n l v args))) (λ v x. go_on (listed_rest false x) (λ args u. answered l u (LL.index n l v args))) (firsts s t e)
         (λ v u. on_grows u (listed_rest false u) (λ args y. answered l y (LL.index n l v args)) (rest_grows false u) (λ args y. answer_grows l y (LL.index n l v args)))
         (λ v x u i. two_steps (rest false x) (listed_rest false u) (λ args y. answered l y (L.index n l v args)) (λ args y. answered l y (LL.index n l v args)) (rests false x u i)
-          (λ args y. answer_grows l y (LL.index n l v args)) (λ args y z j q. two_answers l y z (L.index n l v args) (L.index n l v args) j refl))
+        (λ args y. answer_grows l y (LL.index n l v args)) (λ args y z j q. two_answers l y z (L.index n l v args) (L.index n l v args) j refl))
 
     named_follows : (line : ℕ) (name : List ℕ) (has listed_has : Bool) → has ≡ listed_has → (found : Option ScriptFunction) (s : State Tall) (t : Listed) → AreAlike s t.0
         → Follows (call_value L n l (if has then a_value else callee_named line name found) first rest s) (call_value LL n l (if listed_has then a_value else callee_named line name found) listed listed_rest t)
@@ -504,7 +504,7 @@ module _ (setting : Setting) where
         (value_follows a s t e)
         (λ v u. on_grows u (value LL b u) (λ w y. answered l y (LL.infix_value n l op v w)) (value_grows b u) (λ w y. answer_grows l y (LL.infix_value n l op v w)))
         (λ v x u i. two_steps (value L b x) (value LL b u) (λ w y. answered l y (L.infix_value n l op v w)) (λ w y. answered l y (LL.infix_value n l op v w)) (value_follows b x u i)
-          (λ w y. answer_grows l y (LL.infix_value n l op v w)) (λ w y z j q. two_answers l y z (L.infix_value n l op v w) (L.infix_value n l op v w) j refl))
+        (λ w y. answer_grows l y (LL.infix_value n l op v w)) (λ w y z j q. two_answers l y z (L.infix_value n l op v w) (L.infix_value n l op v w) j refl))
     value_follows (tree n l (trees.member a x)) s t e =
         two_steps (value L a s) (value LL a t) (λ v y. answered l y (L.member v x)) (λ v y. answered l y (LL.member v x)) (value_follows a s t e)
         (λ v u. answer_grows l u (LL.member v x)) (λ v y u i q. two_answers l y u (L.member v x) (L.member v x) i refl)
@@ -520,7 +520,7 @@ module _ (setting : Setting) where
         (argument_follows (handle_in takes a) (λ x. value L a x) (λ x. value LL a x) (λ x y i. value_follows a x y i) s t e)
         (λ b u. on_grows u (arguments LL args takes u) (λ rest y. gives (b ∷ rest) y) (arguments_grow args takes u) (λ rest y. grows_kept.nothing y))
         (λ b x u i. two_steps (arguments L args takes x) (arguments LL args takes u) (λ rest y. gives (b ∷ rest) y) (λ rest y. gives (b ∷ rest) y) (arguments_follow args takes x u i)
-          (λ rest y. grows_kept.nothing y) (λ rest y z j q. same_gives (b ∷ rest) y z.0 j))
+        (λ rest y. grows_kept.nothing y) (λ rest y z j q. same_gives (b ∷ rest) y z.0 j))
     arguments_follow (colon_arg args) takes s t e =
         two_steps (arguments L args takes s) (arguments LL args takes t) (λ rest x. gives (colon ∷ rest) x) (λ rest x. gives (colon ∷ rest) x) (arguments_follow args takes s t e)
         (λ rest y. grows_kept.nothing y) (λ rest x u i q. same_gives (colon ∷ rest) x u.0 i)
