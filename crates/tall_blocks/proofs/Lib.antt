@@ -26,3 +26,6 @@ pub mod BlockFoldLaws
 pub mod GatheredLaws
 pub mod PartLaws
 pub mod RowPlaceLaws
+pub mod RangeLaws
+pub mod InClassLaws
+pub mod BlockClassLaws

@@ -1,11 +1,13 @@
 -- Blocks: the rows of the stored columns, in as many pieces as one likes. Nothing is said of how long a block is.
 use Rattle.std.specs.Prelude.{◌≡◌, ℕ, ◌<◌, ◌≤◌, Bool, true, Some, List, [], ◌∷◌, ◌++◌, slice_get}
 use Rattle.tall_semantics.specs.Operations.{Made, stored, operation}
-use Rattle.tall_semantics.specs.Outcomes.{rows}
+use Rattle.tall_value.specs.declared.class.Class.{Class}
+use Rattle.tall_value.specs.Classes.{kind_of}
+use Rattle.tall_semantics.specs.Outcomes.{rows, cells_in}
 use Rattle.tall_semantics.specs.Talls.{Columns}
 use Rattle.tall_semantics.specs.Deferred.{Vertex}
 use Rattle.tall_semantics.specs.RowsOfSpaces.{numbers_in}
-use Rattle.tall_blocks.specs.Carries.{Rows}
+use Rattle.tall_blocks.specs.Carries.{Rows, AllCells, IsInClass}
 
 -- the rows that a block has of each variable of each datastore
 abbrev pub Block : Type 0
@@ -26,6 +28,10 @@ IsVariable (operation op) t w = ⊥
 -- the blocks have the rows of the variables that are cut into them, and so no variable has a reading fault
 abbrev pub AreBlocksOf : Columns → List Vertex → (ℕ → Bool) → List Block → Type 0
 AreBlocksOf columns vs cut bs = (i : ℕ) (v : Vertex) (s a : ℕ) → slice_get vs i ≡ Some v → cut i ≡ true → IsVariable v.made s a → columns s a ≡ rows (all_rows bs s a)
+
+-- the cells of each variable are within its class
+abbrev pub AreInTheirClasses : Columns → List Vertex → Type 0
+AreInTheirClasses columns vs = (i : ℕ) (v : Vertex) (s a : ℕ) (c : Class) → slice_get vs i ≡ Some v → v.made ≡ stored s a c → AllCells (IsInClass (kind_of c)) (cells_in (columns s a))
 
 -- ---- row numbers
 

@@ -25,5 +25,8 @@ pub use parts::{
     groups_of_parts_give_the_groups, places_and_numbers_of_rows_agree,
     reductions_go_on_from_what_is_kept,
 };
-pub use pieces::{a_block_is_computed_from_its_carries, the_least_fault_goes_from_block_to_block};
+pub use pieces::{
+    a_block_is_computed_from_its_carries, the_least_fault_goes_from_block_to_block,
+    values_over_a_block_are_within_their_class,
+};
 pub use plans::{passes_go_level_by_level, the_work_of_a_pass_is_that_of_its_level};

@@ -11,7 +11,8 @@ ghost use Rattle.tall_semantics.specs.Deferred.{IsAmong, IsOrdered, Vertex, own_
 ghost use Rattle.tall_semantics.specs.Least.{IsLeast};
 ghost use Rattle.tall_semantics.specs.Numbered.{AreNumbered};
 ghost use Rattle.tall_semantics.specs.Plans.{is_scan_at};
-ghost use Rattle.tall_blocks.specs.Blocks.{Block, all_rows, block_columns};
+ghost use Rattle.tall_blocks.specs.Blocks.{AreInTheirClasses, Block, all_rows, block_columns};
+ghost use Rattle.tall_semantics.specs.ClassesOfCells.{HaveClass};
 ghost use Rattle.tall_blocks.specs.Carries.{AllCells, IsInClass, flat, scanned_behind};
 ghost use Rattle.tall_blocks.specs.Cut.{IsCutWork, IsOfRows};
 ghost use Rattle.tall_blocks.specs.Pieces.{AreScansFree, IsLookedAt, carry_in, cells_by_block, fault_from, looked_at, pass_blocks};
@@ -35,6 +36,20 @@ pub fn a_block_is_computed_from_its_carries()
     ensures same_carries { (store : ℕ) (vs : List Vertex) (f : ℕ → Tall) (cut other : ℕ → Bool) → IsOrdered vs → IsOfRows store vs f cut → IsOfRows store vs f other
         → (bs : List Block) (n i a : ℕ) (v w : Vertex) → slice_get vs i ≡ Some v → v.args ≡ a ∷ [] → slice_get vs a ≡ Some w → cut a ≡ true → other a ≡ true
         → carry_in vs f (pass_blocks vs f cut bs) i n ≡ carry_in vs f (pass_blocks vs f other bs) i n }
+{}
+
+/// Over a block each cell of a value that is computed block by block has the class of its shape, and a number of an integer class is
+/// within the class, where it is so of the stored columns. So a scan goes on from its one carry in each block where it has it.
+pub fn values_over_a_block_are_within_their_class()
+    ensures values { (columns : Columns) (of_stores : ℕ → List ℕ) (vs : List Vertex) (f : ℕ → Tall) (store : ℕ) (cut : ℕ → Bool) (bs : List Block) → IsBlockwise columns of_stores vs f store cut bs → AreInTheirClasses columns vs
+        → (n : ℕ) (h : ℕ → Outcome) → slice_get (pass_blocks vs f cut bs) n ≡ Some h → (i : ℕ) (v : Vertex) → slice_get vs i ≡ Some v → cut i ≡ true
+        → AllCells (IsInClass (kind_of (f i).shape.class)) (cells_in (h i)) }
+    ensures kinds { (columns : Columns) (of_stores : ℕ → List ℕ) (vs : List Vertex) (f : ℕ → Tall) (store : ℕ) (cut : ℕ → Bool) (bs : List Block) → IsBlockwise columns of_stores vs f store cut bs → AreInTheirClasses columns vs
+        → (n : ℕ) (h : ℕ → Outcome) → slice_get (pass_blocks vs f cut bs) n ≡ Some h → (i : ℕ) (v : Vertex) → slice_get vs i ≡ Some v → cut i ≡ true
+        → HaveClass (f i).shape.class (h i) }
+    ensures scans { (columns : Columns) (of_stores : ℕ → List ℕ) (vs : List Vertex) (f : ℕ → Tall) (store : ℕ) (cut : ℕ → Bool) (bs : List Block) → IsBlockwise columns of_stores vs f store cut bs → AreInTheirClasses columns vs
+        → (n : ℕ) (h : ℕ → Outcome) → slice_get (pass_blocks vs f cut bs) n ≡ Some h → (i a : ℕ) (v : Vertex) (s : Scan) (c : Seen) → slice_get vs i ≡ Some v → v.made ≡ operation (scan s) → v.args ≡ a ∷ [] → cut i ≡ true
+        → carry_in vs f (pass_blocks vs f cut bs) i n ≡ Some c → fault_of (h a) ≡ None → h i ≡ row_by_row v.at (scanned_behind s (kind_of (f a).shape.class) (c ∷ []) (rows_in (h a))) }
 {}
 
 /// The least fault of a pass goes from block to block: it is the earlier of what was found before and what is seen in the

@@ -65,13 +65,13 @@ class_again class.Logical = refl
 class_again class.Double = refl
 class_again class.Text = refl
 
-abbrev class_ok : Class → Result Class ShapeRefusal
+abbrev pub class_ok : Class → Result Class ShapeRefusal
 class_ok k = Ok k
 
-abbrev kind_ok : Kind → Result Kind ClassFault
+abbrev pub kind_ok : Kind → Result Kind ClassFault
 kind_ok k = Ok k
 
-placed_class : (c : Result Class ShapeRefusal) (s : Result Space ShapeRefusal) (p : Class × Space) → placed c s ≡ place_ok p → c ≡ class_ok p.0
+pub placed_class : (c : Result Class ShapeRefusal) (s : Result Space ShapeRefusal) (p : Class × Space) → placed c s ≡ place_ok p → c ≡ class_ok p.0
 placed_class (Ok c) (Ok s) p h = ap (λ r. elim r [ Ok q ↦ class_ok q.0 | Err e ↦ class_ok c ]) h
 placed_class (Ok c) (Err e) p h = absurd (cc)
 placed_class (Err e) s p h = absurd (cc)
@@ -80,19 +80,19 @@ class_inside : (c k : Class) → class_ok c ≡ class_ok k → c ≡ k
 class_inside c k h = ap (λ r. elim r [ Ok d ↦ d | Err e ↦ c ]) h
 
 -- the kind that a table of classes gave
-allowed_kind : (r : Result Kind ClassFault) (k : Class) → allowed (class_result r) ≡ class_ok k → r ≡ kind_ok (kind_of k)
+pub allowed_kind : (r : Result Kind ClassFault) (k : Class) → allowed (class_result r) ≡ class_ok k → r ≡ kind_ok (kind_of k)
 allowed_kind (Ok j) k h = ap kind_ok (sym (kind_again j) ∙ ap kind_of (class_inside (class_of j) k h))
 allowed_kind (Err MixedClass) k h = absurd (cc)
 allowed_kind (Err BadClass) k h = absurd (cc)
 
-masked_kind : (c k : Class) (r : Result Kind ClassFault) → allowed (masked_class c r) ≡ class_ok k → c ≡ k
+pub masked_kind : (c k : Class) (r : Result Kind ClassFault) → allowed (masked_class c r) ≡ class_ok k → c ≡ k
 masked_kind c k (Ok j) h = class_inside c k h
 masked_kind c k (Err MixedClass) h = absurd (cc)
 masked_kind c k (Err BadClass) h = absurd (cc)
 
 -- ---- outcomes whose cells have a kind
 
-abbrev AreOf : Kind → Outcome → Type 0
+abbrev pub AreOf : Kind → Outcome → Type 0
 AreOf k x = All (HasKind k) (cells_in x)
 
 cells_of : (k : Kind) (rs : List (ℕ × Seen)) → All (RowHasKind k) rs → All (HasKind k) (cells rs)
@@ -122,7 +122,7 @@ of_scalar k c all = All-head (HasKind k) c [] all
 
 -- ---- operators
 
-of_one : (at : At) (op : Unary) (k j : Kind) (x : Outcome) → AreOf k x → unary_kind op k ≡ kind_ok j → AreOf j (elementwise_one at op x)
+pub of_one : (at : At) (op : Unary) (k j : Kind) (x : Outcome) → AreOf k x → unary_kind op k ≡ kind_ok j → AreOf j (elementwise_one at op x)
 of_one at op k j (rows rs) all h = of_rows at j (unary_rows op rs) (λ outs e. unary_rows_kind op k j rs outs (rows_of k rs all) h e)
 of_one at op k j (scalar c) all h =
     of_alone at j (or_fault (unary_cell op c)) (λ d e. unary_law op c d j (ap (unary_kind op) (of_scalar k c all) ∙ h) (exact_of (unary_cell op c) d e))
@@ -131,7 +131,7 @@ of_one at op k j (fault f) all h = All-nil (HasKind j)
 flagged : (op : Binary) (k l j : Kind) (s t u w : Bool) → s ≡ u → t ≡ w → binary_kind op k s l t ≡ kind_ok j → binary_kind op k u l w ≡ kind_ok j
 flagged op k l j s t u w e g h = ap (λ b. binary_kind op k b l w) (sym e) ∙ (ap (λ b. binary_kind op k s l b) (sym g) ∙ h)
 
-of_two : (at : At) (op : Binary) (s t : Bool) (k l j : Kind) (x y : Outcome) → FitsTo s x → FitsTo t y → AreOf k x → AreOf l y → binary_kind op k s l t ≡ kind_ok j → AreOf j (elementwise_two at op x y)
+pub of_two : (at : At) (op : Binary) (s t : Bool) (k l j : Kind) (x y : Outcome) → FitsTo s x → FitsTo t y → AreOf k x → AreOf l y → binary_kind op k s l t ≡ kind_ok j → AreOf j (elementwise_two at op x y)
 of_two at op s t k l j (rows rs) (rows ss) e g p q h =
     of_rows at j (binary_rows op rs ss) (λ outs z. binary_rows_kind op k l j rs ss outs (rows_of k rs p) (rows_of l ss q) (flagged op k l j s t false false e g h) z)
 of_two at op s t k l j (rows rs) (scalar d) e g p q h =
@@ -226,7 +226,7 @@ AreEven [] = Unit {0}
 AreEven (x ∷ []) = Unit {0}
 AreEven (x ∷ y ∷ xs) = x.shape.space ≡ y.shape.space → length (rows_in x.outcome) ≡ length (rows_in y.outcome)
 
-as_class : (k j : Class) (x : Outcome) → k ≡ j → AreOf (kind_of k) x → AreOf (kind_of j) x
+pub as_class : (k j : Class) (x : Outcome) → k ≡ j → AreOf (kind_of k) x → AreOf (kind_of j) x
 as_class k j x e h = subst (λ (c : Class). AreOf (kind_of c) x) e h
 
 class_at : (c : Class) (s : Space) (p : Class × Space) → place_ok (c, s) ≡ place_ok p → c ≡ p.0
@@ -290,11 +290,11 @@ own_class at (group m part) (g ∷ v ∷ z ∷ xs) p h f a e = absurd (refused p
 
 -- ---- vertices
 
-to_class : (k : Class) (cs : List Seen) → All (HasKind (kind_of k)) cs → All (HasClass k) cs
+pub to_class : (k : Class) (cs : List Seen) → All (HasKind (kind_of k)) cs → All (HasClass k) cs
 to_class k [] all = All-nil (HasClass k)
 to_class k (c ∷ cs) all = All-cons (HasClass k) c cs (ap class_of (All-head (HasKind (kind_of k)) c cs all) ∙ class_again k) (to_class k cs (All-tail (HasKind (kind_of k)) c cs all))
 
-from_class : (k : Class) (cs : List Seen) → All (HasClass k) cs → All (HasKind (kind_of k)) cs
+pub from_class : (k : Class) (cs : List Seen) → All (HasClass k) cs → All (HasKind (kind_of k)) cs
 from_class k [] all = All-nil (HasKind (kind_of k))
 from_class k (c ∷ cs) all = All-cons (HasKind (kind_of k)) c cs (sym (kind_again (seen_kind c)) ∙ ap kind_of (All-head (HasClass k) c cs all)) (from_class k cs (All-tail (HasClass k) c cs all))
 

@@ -208,7 +208,7 @@ cells_class store place (r ∷ records) =
     (value_of_field (field_value (format_at store place) store.missing fields) (λ kind. record { kind = kind; file = r.file; row = r.row; column = place + 1 }) c e))
     (cells_class store place records)
 
-cells-numbered : (n : ℕ) (cs : List Seen) → cells (numbered n cs) ≡ cs
+pub cells-numbered : (n : ℕ) (cs : List Seen) → cells (numbered n cs) ≡ cs
 cells-numbered n [] = refl
 cells-numbered n (c ∷ cs) = ap (λ rest. c ∷ rest) (cells-numbered (n + 1) cs)
 

@@ -1,3 +1,4 @@
 pub mod StoredBlockLaws
 pub mod SampleLaws
 pub mod BlockTables
+pub mod StoredClasses

@@ -8,7 +8,7 @@ ghost use Rattle.tall_semantics.specs.InOrder.{tall_in, talls};
 ghost use Rattle.tall_semantics.specs.Operations.{stored};
 ghost use Rattle.tall_semantics.specs.Outcomes.{fault, rows};
 ghost use Rattle.tall_semantics.specs.Talls.{Columns, Tall};
-ghost use Rattle.tall_blocks.specs.Blocks.{AreAscending, AreBlocksOf, AreTables, IsVariable, block_columns};
+ghost use Rattle.tall_blocks.specs.Blocks.{AreAscending, AreBlocksOf, AreInTheirClasses, AreTables, IsVariable, block_columns};
 ghost use Rattle.tall_column.specs.Columns.{SeenColumn};
 ghost use Rattle.tall_value.specs.Columns.{numbered};
 ghost use Rattle.tall_store.specs.declared.faults.ReadingFault.{ReadingFault};
@@ -56,6 +56,11 @@ pub fn a_block_has_the_rows_of_its_table()
     ensures height { (store : SeenStore) (block : Block) → first_block_fault store block ≡ None → (x : ℕ) (e : List ℕ × SeenColumn) → x < length store.selected
         → slice_get (block_variables store block) x ≡ Some e → length e.1.cells ≡ length block.records }
     ensures numbers { (store : SeenStore) (block : Block) (fields : Fields) (more : List Fields) → first_block_fault store block ≡ None → block.records ≡ fields ∷ more → block.row + length block.records ≤ 2 ^ 40 }
+{}
+
+/// The cells of stored columns are within their class, so those of all that a pass computes from them block by block are.
+pub fn stored_columns_are_within_their_classes()
+    ensures { (files : Files) (stores : List Store) (vs : List Vertex) (columns : Columns) → AreStored files stores vs columns → AreInTheirClasses columns vs }
 {}
 
 /// What these laws ask for can be met: a datastore of two files with a variable, and its sum.
