@@ -3,3 +3,4 @@ pub mod PickLaws
 pub mod Summaries
 pub mod Carries
 pub mod FirstAndLast
+pub mod FoldRows
