@@ -31,7 +31,7 @@ second_false false b h = h
 
 -- ---- keys and their places
 
-member : (c k : Seen) (ks : List Seen) (p : ℕ) → slice_get ks p ≡ Some k → is_of_group c k ≡ true → found c ks ≡ true
+pub member : (c k : Seen) (ks : List Seen) (p : ℕ) → slice_get ks p ≡ Some k → is_of_group c k ≡ true → found c ks ≡ true
 member c k [] p h g = absurd cc
 member c k (x ∷ ks) zero h g = (let e : x ≡ k = cc in ap (λ z. is_of_group c z || found c ks) e ∙ ap (λ b. b || found c ks) g)
 member c k (x ∷ ks) (suc p) h g = ap (λ b. is_of_group c x || b) (member c k ks p h g) ∙ or_true (is_of_group c x)
@@ -48,7 +48,7 @@ one_place (x ∷ ks) zero (suc q) k j a h i g = absurd (let e : k ≡ x = cc in 
 one_place (x ∷ ks) (suc p) zero k j a h i g = absurd (let e : j ≡ x = cc in contrary (found x ks) (member x k ks p h (ap (λ z. is_of_group z k) (sym e) ∙ group_turned k j g)) a.0)
 one_place (x ∷ ks) (suc p) (suc q) k j a h i g = ap suc (one_place ks p q k j a.1 h i g)
 
-get_some : (ks : List Seen) (p : ℕ) (d : Seen) → p < length ks → slice_get ks p ≡ Some (get_or ks p d)
+pub get_some : {A : Type 0} (ks : List A) (p : ℕ) (d : A) → p < length ks → slice_get ks p ≡ Some (get_or ks p d)
 get_some [] p d l = absurd (omega arith)
 get_some (k ∷ ks) zero d l = refl
 get_some (k ∷ ks) (suc p) d l = get_some ks p d (omega arith)
@@ -110,7 +110,7 @@ short_by : (b : Bool) (d : Seen) (xs : List Seen) (n : ℕ) → length xs ≤ n 
 short_by true d xs n h = omega (arith, h)
 short_by false d xs n h = omega (arith, h)
 
-data_short : (key : Seen) (ks ds : List Seen) → length (group_data key ks ds) ≤ length ks
+pub data_short : (key : Seen) (ks ds : List Seen) → length (group_data key ks ds) ≤ length ks
 data_short key [] ds = omega arith
 data_short key (k ∷ ks) [] = omega arith
 data_short key (k ∷ ks) (d ∷ ds) = short_by (is_of_group key k) d (group_data key ks ds) (length ks) (data_short key ks ds)

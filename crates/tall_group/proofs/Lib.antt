@@ -9,3 +9,6 @@ pub mod NativeLemmas
 pub mod PartLemmas
 pub mod GroupLemmas
 pub mod FoldLemmas
+pub mod SummaryLemmas
+pub mod GivenLemmas
+pub mod NamedLemmas

@@ -1,7 +1,8 @@
 -- The numbers of cells, and the cells of numbers.
-use Rattle.std.specs.Prelude.{◌≡◌, refl, ℤ, ℕ, pos, ◌≤ℤ◌, ◌<ℤ◌, Bool, true, false, Option, None, Some, Result, Ok, Err}
+use Rattle.std.specs.Prelude.{◌≡◌, refl, ℤ, ℕ, pos, negsuc, ◌≤◌, ◌^◌, ◌≤ℤ◌, ◌<ℤ◌, Bool, true, false, if◌then◌else◌, nat_le, unsigned_abs, Option, None, Some, Result, Ok, Err}
 use Rattle.std.proofs.Common.{ap, sym, ◌∙◌, arith}
 use Rattle.std.proofs.lemmas.Int.{ints, clamps}
+use Rattle.std.proofs.lemmas.Bool.{le-leb}
 use Rattle.std.proofs.lemmas.Bool.Decides.{Decides-int_eq}
 use Rattle.std.specs.declared.cmp.Ordering.{Ordering}
 use Rattle.std.specs.declared.cmp.Ordering.TheVariants.{Less, Equal, Greater}
@@ -10,12 +11,15 @@ use Rattle.std.specs.Cmp.{int_cmp_total, int_ranked, tied_itself}
 use Rattle.tall_int.specs.Doubles.{exact}
 use Rattle.tall_int.specs.Numbers.{nearest}
 use Rattle.tall_int.specs.declared.faults.WholeFault.{WholeFault}
+use Rattle.tall_int.specs.declared.faults.WholeFault.TheVariants.{Inexact}
 use Rattle.tall_value.specs.declared.class.IntKind.{IntKind}
 use Rattle.tall_value.specs.declared.class.Kind.{Kind}
 use Rattle.tall_value.specs.declared.class.Kind.TheVariants.{Integer, Logical, Double, Text}
 use Rattle.tall_value.specs.Cells.{Seen, whole, logical, double, text, bit, seen_kind}
+use Rattle.tall_value.specs.Classes.{least, greatest}
 use Rattle.tall_value.specs.Groups.{is_of_group}
-use Rattle.tall_group.specs.Numbers.{is_not_zero, number_of, key_cell, double_of}
+use Rattle.tall_group.specs.Numbers.{is_not_zero, number_of, number_or_nan, key_cell, double_of}
+use Rattle.tall_group.specs.States.{IsWithin, low_of, high_of, number_of_kind, best_cell}
 use Rattle.tall_group.specs.Tables.{IsNumeric}
 use Rattle.tall_group.specs.declared.numbers.Number.{Number}
 use Rattle.tall_group.specs.declared.numbers.Number.TheVariants.{Whole, Nan}
@@ -93,3 +97,23 @@ pub cells_equal : (k : Kind) → IsNumeric k → (n m : Number) → number_of (k
 cells_equal k h n m p q =
     numbers_equal k h (key_cell k n) (key_cell k m) (key_kind k n) (key_kind k m)
     ∙ (ap (λ x. number_eq x (number_of (key_cell k m))) p ∙ ap (number_eq n) q)
+
+in_range : (n : ℤ) → unsigned_abs n ≤ 2 ^ 53 → double_of (Whole n) ≡ double (Some n)
+in_range n h =
+    let t : nat_le (unsigned_abs n) (2 ^ 53) ≡ true = le-leb (unsigned_abs n) (2 ^ 53) h in
+    ap (λ (b : Bool). elim (if b then Ok (Some n) else Err Inexact) [ Ok d ↦ double d | Err e ↦ double None ]) t
+
+abs_within : (n : ℤ) → negsuc 9007199254740991 ≤ℤ n → n ≤ℤ pos 9007199254740992 → unsigned_abs n ≤ 2 ^ 53
+abs_within (pos n) p q = omega (arith, ints, q)
+abs_within (negsuc n) p q = omega (arith, ints, p)
+
+-- a number of the kind is the number of its cell
+pub number_is : (a : Kind) (n : ℤ) → low_of a ≤ℤ n → n ≤ℤ high_of a → key_cell a (Whole n) ≡ number_of_kind a n
+number_is (Integer k) n p q = near k (least k) (greatest k) n p q
+number_is Logical n p q = refl
+number_is Double n p q = in_range n (abs_within n p q)
+number_is Text n p q = refl
+
+pub best_is : (a : Kind) (d : Option ℤ) (c : Seen) → c ≡ key_cell a (number_or_nan d) → IsWithin (low_of a) (high_of a) d → c ≡ best_cell a d
+best_is a (Some n) c e w = e ∙ number_is a n w.0 w.1
+best_is a None c e w = e

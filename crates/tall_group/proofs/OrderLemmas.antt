@@ -63,7 +63,7 @@ not_below : (c d : Seen) (ds : List Seen) → is_of_group c d ≡ true → IsBel
 not_below c d [] h b = refl
 not_below c d (e ∷ ds) h b = ap (λ x. x || found c ds) (of_one_group c d e h ∙ ap is_eq b.0) ∙ not_below c d ds h b.1
 
-itself : (c : Seen) → is_of_group c c ≡ true
+pub itself : (c : Seen) → is_of_group c c ≡ true
 itself c = by (cell_order c c) (cells_total.antisymm c c)
   where
     by : (r : Ordering) → r ≡ ordering_reverse r → is_eq r ≡ true

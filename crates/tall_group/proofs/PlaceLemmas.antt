@@ -1,10 +1,10 @@
 -- Places of keys: of one that is there, and of a new one.
-use Rattle.std.specs.Prelude.{◌≡◌, refl, ℕ, zero, suc, ◌+◌, ◌<◌, ◌||◌, Bool, true, false, if◌then◌else◌, Option, None, Some, List, [], ◌∷◌, ◌++◌, length, get_or, map, position}
+use Rattle.std.specs.Prelude.{◌≡◌, refl, ℕ, zero, suc, ◌+◌, ◌<◌, ◌||◌, Bool, true, false, if◌then◌else◌, Option, None, Some, List, [], ◌∷◌, ◌++◌, length, get_or, map, position, take}
 use Rattle.std.proofs.Common.{ap, sym, subst, ◌∙◌, arith, length-append}
 use Rattle.std.specs.List.{list_any, AllByRecursion}
 use Rattle.std.specs.Map.{keys_of}
 use Rattle.std.specs.Cmp.{tied_itself}
-use Rattle.std.proofs.lemmas.List.{length-map, map-append}
+use Rattle.std.proofs.lemmas.List.{length-map, map-append, take-map}
 use Rattle.std.specs.Ordering.{is_eq}
 use Rattle.std.proofs.lemmas.List.Quantifiers.{position-Some}
 use Rattle.indexmap.specs.IndexMap.{insert_entry}
@@ -179,3 +179,27 @@ module _ {K : Type 0} (bytes : K → List ℕ) (q : List ℕ) where
 
     pub text_places : (es fs : List (K × ℕ)) (v : ℕ) → ArePlaces es → None ≡ position is_text (keys_of es) → fs ≡ insert_entry (λ a b. bytes_eq (bytes a) (bytes b)) es k v → v ≡ length es → ArePlaces fs
     text_places es fs v x p f l = subst ArePlaces (sym (text_entries es fs v p f ∙ ap (λ m. es ++ (k, m) ∷ []) l)) (more_places es k x)
+
+-- ---- the first keys alone
+
+kept_at : {A : Type 0} (es : List A) (n i : ℕ) (d : A) → i < length (take n es) → (i < length es) × (get_or (take n es) i d ≡ get_or es i d)
+kept_at [] zero i d l = absurd (omega arith)
+kept_at [] (suc n) i d l = absurd (omega arith)
+kept_at (e ∷ es) zero i d l = absurd (omega arith)
+kept_at (e ∷ es) (suc n) zero d l = (omega arith, refl)
+kept_at (e ∷ es) (suc n) (suc i) d l = (let h = kept_at es n i d (omega (arith, l)) in (omega (arith, h.0), h.1))
+
+pub kept_places : {K : Type 0} (es fs : List (K × ℕ)) (n : ℕ) → fs ≡ take n es → ArePlaces es → ArePlaces fs
+kept_places {K} es fs n e h = subst (λ (gs : List (K × ℕ)). ArePlaces gs) (sym e) (λ i d l. let k = kept_at es n i d l in ap (λ (x : K × ℕ). x.1) k.1 ∙ h i d k.0)
+
+kept_exact : (kind : Kind) (es : List (Number × ℕ)) (n : ℕ) → AreExact kind es → AreExact kind (take n es)
+kept_exact kind [] zero h = tt
+kept_exact kind [] (suc n) h = tt
+kept_exact kind (e ∷ es) zero h = tt
+kept_exact kind (e ∷ es) (suc n) h = (h.0, kept_exact kind es n h.1)
+
+pub kept_numbers : (kind : Kind) (es fs : List (Number × ℕ)) (n : ℕ) → fs ≡ take n es → AreExact kind es → AreExact kind fs
+kept_numbers kind es fs n e h = subst (AreExact kind) (sym e) (kept_exact kind es n h)
+
+pub kept_cells : {A : Type 0} (cell : A → Seen) (es fs : List A) (n : ℕ) → fs ≡ take n es → map cell fs ≡ take n (map cell es)
+kept_cells cell es fs n e = ap (map cell) e ∙ sym (take-map cell n es)

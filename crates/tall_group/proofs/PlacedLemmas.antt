@@ -4,9 +4,10 @@ use Rattle.std.proofs.Common.{ap, sym, subst, ◌∙◌, arith, length-append, a
 use Rattle.std.specs.List.{list_any}
 use Rattle.std.proofs.lemmas.List.{append-nil, append_assoc}
 use Rattle.std.proofs.lemmas.List.Folds.{list_any-append}
+use Rattle.std.proofs.Math.Seq.{take-append_seam}
 use Rattle.tall_value.specs.Cells.{Seen}
 use Rattle.tall_value.specs.Groups.{is_of_group}
-use Rattle.tall_group.specs.Keys.{found, with_key, IsPlaced, AreApart, AreAt, ArePlaced}
+use Rattle.tall_group.specs.Keys.{found, with_key, IsPlaced, AreApart, AreAt, ArePlaced, Begins}
 use Rattle.tall_group.proofs.OrderLemmas.{found_alike, group_turned}
 use Rattle.tall_group.proofs.UniqueLemmas.{found_with, taken_more}
 
@@ -87,3 +88,14 @@ pub row_placed : (before mid after cs : List Seen) (ps qs : List ℕ) (i : ℕ) 
     → ArePlaced before after (take (i + 1) cs) qs
 row_placed before mid after cs ps qs i c p h a o q =
     subst (λ ds. ArePlaced before after ds qs) (sym (taken_more cs i c h)) (subst (λ rs. ArePlaced before after (take i cs ++ c ∷ []) rs) (sym q) (one_placed before mid after (take i cs) ps c p a o))
+
+-- ---- the keys so far are the first
+
+pub begins : (ks after cs : List Seen) (ps : List ℕ) → ArePlaced ks after cs ps → Begins ks after
+begins ks after cs ps placed = ap (take (length ks)) placed.grown ∙ take-append_seam ks placed.more
+
+pub begins_still : (ks after new cs : List Seen) (ps : List ℕ) → ArePlaced ks after cs ps → new ≡ after → Begins ks new
+begins_still ks after new cs ps placed e = ap (take (length ks)) e ∙ begins ks after cs ps placed
+
+pub begins_placed : (ks after new cs : List Seen) (ps : List ℕ) (c : Seen) (p : ℕ) → ArePlaced ks after cs ps → IsPlaced after new c p → Begins ks new
+begins_placed ks after new cs ps c p placed one = begins ks new (cs ++ c ∷ []) (ps ++ p ∷ []) (one_placed ks after new cs ps c p placed one)

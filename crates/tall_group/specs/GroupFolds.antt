@@ -16,8 +16,8 @@ abbrev pub AreGroupsOf : Kind → List Seen → GroupStates → List Seen → Li
 AreGroupsOf a ks (Rows v) keys data' = IsGroupsOf (IsTallyOf never) ks v.items keys data'
 AreGroupsOf a ks (Totals v) keys data' = IsGroupsOf IsTotalOf ks v.items keys data'
 AreGroupsOf a ks (Natives v) keys data' = IsGroupsOf (IsNativeOf (low_of a) (high_of a)) ks v.items keys data'
-AreGroupsOf a ks (Least v) keys data' = IsGroupsOf (IsBestOf int_min) ks v.items keys data'
-AreGroupsOf a ks (Greatest v) keys data' = IsGroupsOf (IsBestOf int_max) ks v.items keys data'
+AreGroupsOf a ks (Least v) keys data' = IsGroupsOf (IsBestOf int_min (low_of a) (high_of a)) ks v.items keys data'
+AreGroupsOf a ks (Greatest v) keys data' = IsGroupsOf (IsBestOf int_max (low_of a) (high_of a)) ks v.items keys data'
 AreGroupsOf a ks (Nonzero v) keys data' = IsGroupsOf (IsTallyOf is_number_but_zero) ks v.items keys data'
 AreGroupsOf a ks (Missing v) keys data' = IsGroupsOf (IsTallyOf is_missing) ks v.items keys data'
 
@@ -36,3 +36,14 @@ abbrev pub form_of : Method → Kind → Method
 form_of method.SumNative (Integer k) = method.SumNative
 form_of method.SumNative a = method.Sum
 form_of m a = m
+
+-- the same states
+abbrev pub AreSame : GroupStates → GroupStates → Type 0
+AreSame (Rows v) (Rows w) = v.items ≡ w.items
+AreSame (Totals v) (Totals w) = v.items ≡ w.items
+AreSame (Natives v) (Natives w) = v.items ≡ w.items
+AreSame (Least v) (Least w) = v.items ≡ w.items
+AreSame (Greatest v) (Greatest w) = v.items ≡ w.items
+AreSame (Nonzero v) (Nonzero w) = v.items ≡ w.items
+AreSame (Missing v) (Missing w) = v.items ≡ w.items
+AreSame s t = ⊥

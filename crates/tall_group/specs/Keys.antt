@@ -1,5 +1,5 @@
 -- Keys in the order in which they first came.
-use Rattle.std.specs.Prelude.{◌≡◌, ◌<◌, ℕ, zero, suc, Bool, true, false, ◌||◌, if◌then◌else◌, List, [], ◌∷◌, ◌++◌, length, get_or}
+use Rattle.std.specs.Prelude.{◌≡◌, ◌<◌, ℕ, zero, suc, Bool, true, false, ◌||◌, if◌then◌else◌, List, [], ◌∷◌, ◌++◌, length, get_or, take}
 use Rattle.std.specs.List.{list_any}
 use Rattle.std.specs.declared.cmp.Ordering.TheVariants.{Less}
 use Rattle.tall_value.specs.declared.class.Kind.{Kind}
@@ -41,6 +41,10 @@ pub record ArePlaced (before after cs : List Seen) (ps : List ℕ) : Type 0 wher
   pub found_in : (c : Seen) → found c after ≡ (found c before || found c cs)
   pub apart : AreApart before → AreApart after
   pub at : AreAt after ps cs
+
+-- a list begins with another
+abbrev pub Begins : {A : Type 0} → List A → List A → Type 0
+Begins before after = take (length before) after ≡ before
 
 -- the cell comes before all of the others
 abbrev pub IsBelow : Seen → List Seen → Type 0

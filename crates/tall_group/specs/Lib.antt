@@ -9,3 +9,4 @@ pub mod Places
 pub mod Groups
 pub mod GroupFolds
 pub mod Folds
+pub mod Summaries

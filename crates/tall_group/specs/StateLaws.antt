@@ -4,6 +4,7 @@ use Rattle.std.proofs.Common.{ap, sym, ◌∙◌, arith, length-append}
 use Rattle.std.proofs.lemmas.Int.{ints, clamps}
 use Rattle.std.proofs.lemmas.List.Elements.{filter-append, filter_map-append}
 use Rattle.std.specs.List.{filter, fold}
+use Rattle.std.specs.Int.{int_max, int_min}
 use Rattle.tall_int.specs.Numbers.{nearest}
 use Rattle.tall_int.specs.Sums.{clamped_sum}
 use Rattle.tall_clamp.specs.ClampLaws.{nearest_above, nearest_below, apply-after}
@@ -13,7 +14,7 @@ use Rattle.tall_clamp.specs.Outcomes.{numbers, picked}
 use Rattle.tall_clamp.specs.declared.bounds.Bounds.{Bounds}
 use Rattle.tall_value.specs.CellOperators.{or_zero}
 use Rattle.tall_value.specs.Reductions.{total}
-use Rattle.tall_group.specs.States.{IsRange}
+use Rattle.tall_group.specs.States.{IsRange, IsWithin}
 
 numbers_append : (ds es : List (Option ℤ)) → numbers (ds ++ es) ≡ numbers ds ++ numbers es
 numbers_append ds es = filter_map-append (λ (t : Option ℤ). t) ds es
@@ -65,6 +66,21 @@ module _ (pick : ℤ → ℤ → ℤ) (assoc : (x y z : ℤ) → pick (pick x y)
 
   pub best_step : (ds : List (Option ℤ)) (d b : Option ℤ) → b ≡ picked pick (numbers ds) → of_both pick b d ≡ picked pick (numbers (ds ++ d ∷ []))
   best_step ds d b p = best_join ds (d ∷ []) b d p (one_best d)
+
+-- what is picked of two numbers lies between any ends between which both lie
+abbrev pub PicksWithin : (ℤ → ℤ → ℤ) → Type 0
+PicksWithin pick = (low high x y : ℤ) → low ≤ℤ x → x ≤ℤ high → low ≤ℤ y → y ≤ℤ high → (low ≤ℤ pick x y) × (pick x y ≤ℤ high)
+
+pub min_within : PicksWithin int_min
+min_within low high x y p q r s = (omega (arith, ints, clamps, p, r), omega (arith, ints, clamps, q, s))
+
+pub max_within : PicksWithin int_max
+max_within low high x y p q r s = (omega (arith, ints, clamps, p, r), omega (arith, ints, clamps, q, s))
+
+pub both_within : (pick : ℤ → ℤ → ℤ) → PicksWithin pick → (low high : ℤ) (b c : Option ℤ) → IsWithin low high b → IsWithin low high c → IsWithin low high (of_both pick b c)
+both_within pick w low high (Some x) (Some y) p q = w low high x y p.0 p.1 q.0 q.1
+both_within pick w low high (Some x) None p q = p
+both_within pick w low high None c p q = q
 
 -- ---- how many pass a test
 

@@ -13,7 +13,7 @@ use Rattle.tall_value.specs.Cells.{Seen, whole, logical, double, text, amount}
 use Rattle.tall_value.specs.Classes.{least, greatest}
 use Rattle.tall_value.specs.Reductions.{total}
 use Rattle.tall_group.specs.Numbers.{key_cell}
-use Rattle.tall_group.specs.declared.numbers.Number.TheVariants.{Whole}
+use Rattle.tall_group.specs.declared.numbers.Number.TheVariants.{Whole, Nan}
 
 -- the datum of a cell
 abbrev pub datum : Seen → Option ℤ
@@ -25,10 +25,12 @@ datum (double d) = amount (double d)
 -- the least and the greatest number of the data of a kind
 abbrev pub low_of : Kind → ℤ
 low_of (Integer k) = least k
+low_of Double = negsuc 9007199254740991
 low_of a = negsuc 18446744073709551615
 
 abbrev pub high_of : Kind → ℤ
 high_of (Integer k) = greatest k
+high_of Double = pos 9007199254740992
 high_of a = pos 18446744073709551616
 
 -- ends within 2^64, around 0
@@ -48,8 +50,8 @@ IsTotalOf ds s = (s.0 ≡ total (numbers ds)) × (s.1 ≡ length ds)
 abbrev pub IsNativeOf : ℤ → ℤ → List (Option ℤ) → Bounds × ℕ → Type 0
 IsNativeOf low high ds s = Sums low high (numbers ds) s.0 × (s.1 ≡ length ds)
 
-abbrev pub IsBestOf : (ℤ → ℤ → ℤ) → List (Option ℤ) → Option ℤ × ℕ → Type 0
-IsBestOf pick ds s = (s.0 ≡ picked pick (numbers ds)) × (s.1 ≡ length ds)
+abbrev pub IsBestOf : (ℤ → ℤ → ℤ) → ℤ → ℤ → List (Option ℤ) → Option ℤ × ℕ → Type 0
+IsBestOf pick low high ds s = (s.0 ≡ picked pick (numbers ds)) × (s.1 ≡ length ds) × IsWithin low high s.0
 
 abbrev pub IsTallyOf : (Option ℤ → Bool) → List (Option ℤ) → ℕ × ℕ → Type 0
 IsTallyOf test ds s = (s.0 ≡ length (filter test ds)) × (s.1 ≡ length ds)
@@ -78,13 +80,25 @@ abbrev pub native_cell : Kind → ℤ → Seen
 native_cell (Integer k) n = whole k (nearest (least k) (greatest k) n)
 native_cell a n = double None
 
+-- the class of a sum that stays in the class: that of integers, and else double
+abbrev pub native_kind : Kind → Kind
+native_kind (Integer k) = Integer k
+native_kind a = Double
+
 abbrev pub native_given : Kind → List (Option ℤ) → Option Seen
 native_given (Integer k) ds = Some (whole k (clamped_sum (least k) (greatest k) (pos 0) (numbers ds)))
 native_given a ds = Some (double None)
 
+-- a number of a kind; data of other kinds than integers and doubles have no least number
+abbrev pub number_of_kind : Kind → ℤ → Seen
+number_of_kind (Integer k) n = whole k n
+number_of_kind Double n = double (Some n)
+number_of_kind a n = key_cell a (Whole n)
+
+-- of no numbers NaN, which a column of integers doesn't have
 abbrev pub best_cell : Kind → Option ℤ → Seen
-best_cell a (Some n) = key_cell a (Whole n)
-best_cell a None = double None
+best_cell a (Some n) = number_of_kind a n
+best_cell a None = key_cell a Nan
 
 abbrev pub best_given : (ℤ → ℤ → ℤ) → Kind → List (Option ℤ) → Option Seen
 best_given pick a ds = Some (best_cell a (picked pick (numbers ds)))

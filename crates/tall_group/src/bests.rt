@@ -1,25 +1,38 @@
 //! The least and the greatest number of a group.
 ghost use Rattle.std.specs.Prelude.{◌≡◌, ℤ, None, option_map, refl};
 ghost use Rattle.tall_clamp.specs.Folds.{of_both};
-ghost use Rattle.tall_value.specs.Cells.{Seen, seen};
-ghost use Rattle.tall_group.specs.States.{IsBestOf, best_cell, best_given};
+ghost use Rattle.tall_value.specs.Cells.{Seen, seen, seen_kind};
+ghost use Rattle.tall_group.specs.States.{IsBestOf, IsWithin, best_cell, best_given, high_of, low_of};
+ghost use Rattle.tall_group.specs.StateLaws.{PicksWithin, max_within, min_within};
 
 use crate::numbers::{Number, key_cell};
 use crate::states::GroupState;
 use std::marker::{Model, PhantomData};
-use tall_clamp::Choice;
-use tall_int::Whole;
+use tall_clamp::{Choice, Larger, Smaller};
 use tall_value::{Cell, Kind};
+
+/// A choice of one of two numbers: it lies between any ends between which both lie.
+pub(crate) trait Extreme: Choice {
+    ghost within: { PicksWithin Self.pick };
+}
+
+impl Extreme for Smaller {
+    ghost within = { min_within };
+}
+
+impl Extreme for Larger {
+    ghost within = { max_within };
+}
 
 /// The number that is kept among all; NaN is passed over.
 #[derive(Clone, Copy)]
-pub(crate) struct Best<C: Choice> {
+pub(crate) struct Best<C: Extreme> {
     number: Option<i128>,
     rows: u64,
     choice: PhantomData<C>,
 }
 
-impl<C: Choice> Model for Best<C> {
+impl<C: Extreme> Model for Best<C> {
     ghost use Rattle.std.specs.Prelude.{ℕ, ℤ, Option};
 
     ghost Value = { Option ℤ × ℕ };
@@ -30,7 +43,7 @@ impl<C: Choice> Model for Best<C> {
 }
 
 /// The number that is kept of two, where one is there.
-fn of_both<C: Choice>(a: Option<i128>, b: Option<i128>) -> Option<i128>
+fn of_both<C: Extreme>(a: Option<i128>, b: Option<i128>) -> Option<i128>
     ensures { result ≡ of_both C.pick a b }
 {
     match (a, b) {
@@ -40,24 +53,28 @@ fn of_both<C: Choice>(a: Option<i128>, b: Option<i128>) -> Option<i128>
     }
 }
 
+#[tactic(auto, using(crate::proofs::NumberLemmas::best_is, crate::proofs::NumberLemmas::key_kind))]
 /// The cell of a kind with the number, or NaN.
 fn best_cell<'a>(kind: Kind, number: Option<i128>) -> Cell<'a>
-    ensures { seen result ≡ best_cell kind number }
+    ensures cell { IsWithin (low_of kind) (high_of kind) number → seen result ≡ best_cell kind number }
+    ensures kind { seen_kind (seen result) ≡ kind }
 {
     match number {
         Some(n) => key_cell(kind, Number::Whole(n)),
-        None => Cell::Double(Whole::nan()),
+        None => key_cell(kind, Number::Nan),
     }
 }
 
-impl<C: Choice> GroupState for Best<C> {
+impl<C: Extreme> GroupState for Best<C> {
     ghost rows = { λ s. s.1 };
 
-    ghost of = { λ low high ds s. IsBestOf C.pick ds s };
+    ghost of = { λ low high ds s. IsBestOf C.pick low high ds s };
 
     ghost nothing = { (None, 0) };
 
     ghost gives = { best_given C.pick };
+
+    ghost kind_given = { λ a. a };
 
     fn none() -> Best<C> {
         Best {
@@ -91,7 +108,11 @@ impl<C: Choice> GroupState for Best<C> {
         Some(best_cell(kind, self.number))
     }
 
-    ghost of_nothing = { λ low high r. (refl, refl) };
+    fn value_kind(kind: Kind) -> Kind {
+        kind
+    }
+
+    ghost of_nothing = { λ low high r. (refl, refl, tt) };
 
     ghost rows_of = { λ low high ds s h. h.1 };
 }

@@ -1,5 +1,5 @@
 //! States of all groups, by what is kept.
-ghost use Rattle.std.specs.Prelude.{◌≡◌, ◌<◌, ◌+◌, ◌++◌, ◌^◌, ℤ, [], ◌∷◌, IfOk, IsOk, List, length};
+ghost use Rattle.std.specs.Prelude.{◌≡◌, ◌<◌, ◌+◌, ◌++◌, ◌^◌, ℤ, [], ◌∷◌, IfErr, IfOk, IfSome, IsOk, List, length, map, option_map};
 ghost use Rattle.tall_value.specs.Cells.{Seen, seen, seen_kind};
 ghost use Rattle.std.specs.List.{All};
 ghost use Rattle.tall_value.specs.Classes.{kind_of};
@@ -8,9 +8,11 @@ ghost use Rattle.tall_value.specs.FunctionClasses.{method_kind};
 ghost use Rattle.tall_value.specs.declared.class.Kind.{Kind};
 ghost use Rattle.tall_value.specs.declared.functions.Method.{Method};
 ghost use Rattle.tall_dense.specs.Columns.{class_of_cell};
-ghost use Rattle.tall_group.specs.GroupFolds.{AreGroupsOf, form_of, served};
+ghost use Rattle.tall_group.specs.GroupFolds.{AreGroupsOf, AreSame, form_of, served};
+ghost use Rattle.tall_group.specs.Summaries.{all_columns, cells_of, classes_by, columns_by};
 
 use crate::bests::Best;
+use crate::group_columns::{GroupColumns, counted, summarised};
 use crate::groups::{add_row, add_rows, join_groups};
 use crate::natives::NativeSum;
 use crate::table::KeyTable;
@@ -67,6 +69,7 @@ impl GroupStates {
         ensures alike { served self.new ≡ served self.old }
         ensures groups { (ks vs : List Seen) → AreGroupsOf (seen_kind (seen value.now)) keys.old.cells self.old ks vs → length ks + 1 < 2 ^ 40
             → IfOk result (λ _. AreGroupsOf (seen_kind (seen value.now)) keys.new.cells self.new (ks ++ seen key.now ∷ []) (vs ++ seen value.now ∷ [])) }
+        ensures refused { IfErr result (λ _. (keys.new.cells ≡ keys.old.cells) × AreSame self.new self.old) }
     {
         match self {
             GroupStates::Rows(v) => add_row(keys, v, key, value),
@@ -94,6 +97,7 @@ impl GroupStates {
         ensures alike { served self.new ≡ served self.old }
         ensures groups { (ks vs : List Seen) → AreGroupsOf (kind_of values.now.class) keys.old.cells self.old ks vs → length ks + length more.now.cells < 2 ^ 40
             → IfOk result (λ _. AreGroupsOf (kind_of values.now.class) keys.new.cells self.new (ks ++ more.now.cells) (vs ++ values.now.cells)) }
+        ensures refused { IfErr result (λ _. (keys.new.cells ≡ keys.old.cells) × AreSame self.new self.old) }
     {
         match self {
             GroupStates::Rows(v) => add_rows(keys, v, more, values),
@@ -120,6 +124,7 @@ impl GroupStates {
         ensures alike { served self.new ≡ served self.old }
         ensures groups { (a : Kind) (ks vs js ws : List Seen) → AreGroupsOf a keys.old.cells self.old ks vs → AreGroupsOf a later_keys.now.cells later.now js ws → length ks + length js < 2 ^ 40
             → IfOk result (λ _. AreGroupsOf a keys.new.cells self.new (ks ++ js) (vs ++ ws)) }
+        ensures refused { IfErr result (λ _. (keys.new.cells ≡ keys.old.cells) × AreSame self.new self.old) }
     {
         match self {
             GroupStates::Rows(v) => {
@@ -164,6 +169,27 @@ impl GroupStates {
                 };
                 join_groups(keys, v, later_keys, w.as_slice())
             }
+        }
+    }
+
+    /// The columns that the groups give of data of a kind; none where a sum of doubles is above 2^53 in magnitude.
+    pub(crate) fn columns(
+        self,
+        keys: KeyTable,
+        kind: Kind,
+    ) -> Result<Option<GroupColumns>, AllocError>
+        requires groups { (ks vs : List Seen) × AreGroupsOf kind keys.cells self ks vs }
+        ensures classes { IfOk result (λ o. IfSome o (λ g. map (λ c. c.class) (all_columns g) ≡ classes_by (served self) keys.class kind)) }
+        ensures cells { (ks vs : List Seen) → AreGroupsOf kind keys.cells self ks vs → All (HasKind (kind_of keys.class)) ks → IfOk result (λ o. option_map cells_of o ≡ columns_by (served self) kind ks vs) }
+    {
+        match self {
+            GroupStates::Rows(v) => counted(keys, v.as_slice(), kind),
+            GroupStates::Totals(v) => summarised(keys, v.as_slice(), kind),
+            GroupStates::Natives(v) => summarised(keys, v.as_slice(), kind),
+            GroupStates::Least(v) => summarised(keys, v.as_slice(), kind),
+            GroupStates::Greatest(v) => summarised(keys, v.as_slice(), kind),
+            GroupStates::Nonzero(v) => summarised(keys, v.as_slice(), kind),
+            GroupStates::Missing(v) => summarised(keys, v.as_slice(), kind),
         }
     }
 }

@@ -1,5 +1,5 @@
 //! Keys with their places, for each kind of key.
-ghost use Rattle.std.specs.Prelude.{◌≡◌, ◌<◌, [], IfOk, MatchResult, Some, length, map, slice_get, string_bytes};
+ghost use Rattle.std.specs.Prelude.{◌≡◌, ◌<◌, [], IfOk, MatchResult, Some, length, map, slice_get, string_bytes, take};
 ghost use Rattle.tall_value.specs.declared.class.Class.TheVariants as class;
 ghost use Rattle.tall_value.specs.declared.class.Kind.{Kind};
 ghost use Rattle.tall_value.specs.declared.class.Kind.TheVariants.{Text};
@@ -200,6 +200,17 @@ impl Keys {
         match self {
             Keys::Numbers(numbers) => number_at(numbers, class, place),
             Keys::Texts(texts) => text_at(texts, place),
+        }
+    }
+
+    /// Keeps the first keys, so many.
+    pub(crate) fn truncate(&mut self, len: usize)
+        ensures keys { (kind : Kind) → keys_shown kind self.new ≡ take len (keys_shown kind self.old) }
+        ensures table { (kind : Kind) → IsTable kind self.old → IsTable kind self.new }
+    {
+        match self {
+            Keys::Numbers(numbers) => numbers.truncate(len),
+            Keys::Texts(texts) => texts.truncate(len),
         }
     }
 

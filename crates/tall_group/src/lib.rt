@@ -7,10 +7,12 @@ mod table;
 mod unique;
 
 pub use fold::GroupFold;
+pub use group_columns::GroupColumns;
 pub use unique::UniqueFold;
 
 mod bests;
 mod fold;
+mod group_columns;
 mod group_states;
 mod groups;
 mod limits;

@@ -4,8 +4,8 @@ ghost use Rattle.tall_int.specs.Numbers.{nearest};
 ghost use Rattle.tall_clamp.specs.Clamps.{apply};
 ghost use Rattle.tall_clamp.specs.Folds.{no_clamp};
 ghost use Rattle.tall_value.specs.declared.class.Kind.{Kind};
-ghost use Rattle.tall_value.specs.Cells.{Seen, seen};
-ghost use Rattle.tall_group.specs.States.{IsNativeOf, native_cell, native_given};
+ghost use Rattle.tall_value.specs.Cells.{Seen, seen, seen_kind};
+ghost use Rattle.tall_group.specs.States.{IsNativeOf, native_cell, native_given, native_kind};
 ghost use Rattle.tall_group.specs.StateLaws.{none_native};
 
 use crate::limits::{Limits, between, no_limits, one_after, row_limits};
@@ -38,7 +38,8 @@ impl Model for NativeSum {
 
 /// The cell of a kind whose sum goes from 0 to a number.
 fn native_cell<'a>(kind: Kind, n: i128) -> Cell<'a>
-    ensures { seen result ≡ native_cell kind n }
+    ensures cell { seen result ≡ native_cell kind n }
+    ensures kind { seen_kind (seen result) ≡ native_kind kind }
 {
     match kind {
         Kind::Integer(class) => Cell::of_class(class, n),
@@ -54,6 +55,8 @@ impl GroupState for NativeSum {
     ghost nothing = { (no_clamp, 0) };
 
     ghost gives = { native_given };
+
+    ghost kind_given = { native_kind };
 
     fn none() -> NativeSum {
         NativeSum {
@@ -85,6 +88,13 @@ impl GroupState for NativeSum {
             kind,
             between(self.limits.low, self.limits.high, self.limits.shift),
         ))
+    }
+
+    fn value_kind(kind: Kind) -> Kind {
+        match kind {
+            Kind::Integer(class) => Kind::Integer(class),
+            _ => Kind::Double,
+        }
     }
 
     ghost of_nothing = { λ low high r. (none_native low high r, refl) };

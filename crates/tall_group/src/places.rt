@@ -1,9 +1,10 @@
 //! States of groups by their places.
-ghost use Rattle.std.specs.Prelude.{◌≡◌, ◌<◌, ◌≤◌, ◌+◌, ◌++◌, ◌^◌, ℕ, ℤ, [], ◌∷◌, IfOk, List, Option, ◌==◌, get_or, if◌then◌else◌, length, map};
+ghost use Rattle.std.specs.Prelude.{◌≡◌, ◌<◌, ◌≤◌, ◌+◌, ◌++◌, ◌^◌, ℕ, ℤ, [], ◌∷◌, IfOk, List, Option, ◌==◌, get_or, if◌then◌else◌, length, map, vec_capacity};
 ghost use Rattle.std.specs.List.{All};
 ghost use Rattle.tall_value.specs.Cells.{seen, seen_kind};
 ghost use Rattle.tall_value.specs.Classes.{greatest, kind_of, least};
 ghost use Rattle.tall_value.specs.Columns.{HasKind};
+ghost use Rattle.tall_group.specs.Keys.{Begins};
 ghost use Rattle.tall_group.specs.Places.{AreOf, Data, if_here, parts_at, rows_at, singles};
 ghost use Rattle.tall_group.specs.States.{IsRange, IsWithin, datum, high_of, low_of};
 
@@ -46,6 +47,7 @@ fn low_of(kind: Kind) -> i128
         Kind::Integer(IntKind::Int32) => i32::MIN as i128,
         Kind::Integer(IntKind::Int64) => i64::MIN as i128,
         Kind::Integer(_) => 0,
+        Kind::Double => -(1 << 53),
         _ => -(1 << 64),
     }
 }
@@ -63,6 +65,7 @@ fn high_of(kind: Kind) -> i128
         Kind::Integer(IntKind::Uint16) => u16::MAX as i128,
         Kind::Integer(IntKind::Uint32) => u32::MAX as i128,
         Kind::Integer(IntKind::Uint64) => u64::MAX as i128,
+        Kind::Double => 1 << 53,
         _ => 1 << 64,
     }
 }
@@ -70,6 +73,7 @@ fn high_of(kind: Kind) -> i128
 /// States without data for the places from the number of states on.
 pub(crate) fn extend<S: GroupState>(states: &mut Vec<S>, len: usize) -> Result<(), AllocError>
     requires { length states.old.items ≤ len }
+    ensures begins { Begins states.old.items states.new.items }
     ensures long { IfOk result (λ _. length states.new.items ≡ len) }
     ensures data { (low high : ℤ) (at : ℕ → Data) → IsRange low high → AreOf (S.of low high) at states.old.items → ((p : ℕ) → length states.old.items ≤ p → at p ≡ []) → IfOk result (λ _. AreOf (S.of low high) at states.new.items) }
 {
@@ -77,6 +81,19 @@ pub(crate) fn extend<S: GroupState>(states: &mut Vec<S>, len: usize) -> Result<(
         states.push(S::none())?;
     }
     Ok(())
+}
+
+/// States without data for the places from the number of states on, of which there is at most one, with room for it.
+pub(crate) fn fill<S: GroupState>(states: &mut Vec<S>, len: usize)
+    requires low { length states.old.items ≤ len }
+    requires high { len ≤ length states.old.items + 1 }
+    requires room { length states.old.items < vec_capacity states.old }
+    ensures long { length states.new.items ≡ len }
+    ensures data { (low high : ℤ) (at : ℕ → Data) → IsRange low high → AreOf (S.of low high) at states.old.items → ((p : ℕ) → length states.old.items ≤ p → at p ≡ []) → AreOf (S.of low high) at states.new.items }
+{
+    if states.len() < len {
+        states.push_reserved(S::none());
+    }
 }
 
 /// One datum more at a place.

@@ -1,7 +1,7 @@
 //! What is kept of the data of a group.
-ghost use Rattle.std.specs.Prelude.{◌≡◌, ℤ, ℕ, ◌+◌, ◌++◌, ◌<◌, ◌^◌, ◌≤ℤ◌, pos, negsuc, [], ◌∷◌, List, None, Option, length, option_map};
+ghost use Rattle.std.specs.Prelude.{◌≡◌, ℤ, ℕ, ◌+◌, ◌++◌, ◌<◌, ◌^◌, ◌≤ℤ◌, pos, negsuc, [], ◌∷◌, IfSome, List, None, Option, length, option_map};
 ghost use Rattle.tall_value.specs.declared.class.Kind.{Kind};
-ghost use Rattle.tall_value.specs.Cells.{Seen, seen};
+ghost use Rattle.tall_value.specs.Cells.{Seen, seen, seen_kind};
 ghost use Rattle.tall_group.specs.States.{IsRange, IsWithin, high_of, low_of};
 
 use tall_value::{Cell, Kind};
@@ -15,6 +15,8 @@ pub(crate) trait GroupState: Copy {
     ghost nothing: { Self };
 
     ghost gives: { Kind → List (Option ℤ) → Option Seen };
+
+    ghost kind_given: { Kind → Kind };
 
     /// No data.
     fn none() -> Self
@@ -40,7 +42,12 @@ pub(crate) trait GroupState: Copy {
 
     /// What the data of a kind give; none where it is a double above 2^53 in magnitude.
     fn value<'a>(self, kind: Kind) -> Option<Cell<'a>>
-        ensures { (ds : List (Option ℤ)) → of (low_of kind) (high_of kind) ds self → option_map seen result ≡ gives kind ds };
+        ensures kind { IfSome result (λ c. seen_kind (seen c) ≡ kind_given kind) }
+        ensures value { (ds : List (Option ℤ)) → of (low_of kind) (high_of kind) ds self → option_map seen result ≡ gives kind ds };
+
+    /// The kind of what data of a kind give.
+    fn value_kind(kind: Kind) -> Kind
+        ensures { result ≡ kind_given kind };
 
     ghost of_nothing: { (low high : ℤ) → IsRange low high → of low high [] nothing };
 

@@ -1,11 +1,11 @@
 //! Distinct cells of a class with their places.
-ghost use Rattle.std.specs.Prelude.{◌≡◌, ◌<◌, [], IfOk, MatchResult, Some, length, slice_get};
+ghost use Rattle.std.specs.Prelude.{◌≡◌, ◌<◌, [], IfErr, IfOk, MatchResult, Some, length, slice_get, take};
 ghost use Rattle.std.specs.List.{All};
 ghost use Rattle.tall_value.specs.Cells.{seen};
 ghost use Rattle.tall_value.specs.Classes.{kind_of};
 ghost use Rattle.tall_value.specs.Columns.{HasKind};
 ghost use Rattle.tall_dense.specs.Columns.{class_of_cell};
-ghost use Rattle.tall_group.specs.Keys.{ArePlaced, AreSorted, IsPlaced};
+ghost use Rattle.tall_group.specs.Keys.{ArePlaced, AreSorted, Begins, IsPlaced};
 
 use crate::keys::{Keys, PlacedKeys, no_keys};
 use std::alloc::{AllocError, Global};
@@ -60,6 +60,19 @@ impl KeyTable {
         self.class
     }
 
+    /// Keeps the first cells, so many.
+    pub(crate) fn truncate(&mut self, len: usize)
+        ensures class { self.new.class ≡ self.old.class }
+        ensures cells { self.new.cells ≡ take len self.old.cells }
+    {
+        self.keys.truncate(len);
+    }
+
+    /// The allocator of the cells.
+    pub(crate) fn alloc(&self) -> Global {
+        self.alloc
+    }
+
     /// The cell at a place.
     pub(crate) fn get(&self, place: usize) -> Cell<'_>
         requires { place < length self.now.cells }
@@ -87,11 +100,13 @@ impl KeyTable {
         self.keys.sorted(self.alloc, self.class)
     }
 
+    #[tactic(auto, using(crate::proofs::PlacedLemmas::begins_still, crate::proofs::PlacedLemmas::begins_placed))]
     /// The places of the cells of a column of the class, which are added where they aren't there; refused for want of
     /// memory alone, after some of the cells.
     pub(crate) fn place_rows(&mut self, column: &Column) -> Result<Vec<usize>, AllocError>
         requires { column.now.class ≡ self.old.class }
         ensures class { self.new.class ≡ self.old.class }
+        ensures refused { IfErr result (λ _. Begins self.old.cells self.new.cells) }
         ensures places { IfOk result (λ ps. ArePlaced self.old.cells self.new.cells column.now.cells ps.items) }
         ensures kinds { IfOk result (λ _. All (HasKind (kind_of column.now.class)) column.now.cells) }
     {
@@ -103,11 +118,13 @@ impl KeyTable {
         Ok(places)
     }
 
+    #[tactic(auto, using(crate::proofs::PlacedLemmas::begins_still, crate::proofs::PlacedLemmas::begins_placed))]
     /// The places of the cells of another table of the class, which are added where they aren't there; refused for want
     /// of memory alone, after some of the cells.
     pub(crate) fn place_keys(&mut self, later: &KeyTable) -> Result<Vec<usize>, AllocError>
         requires { later.now.class ≡ self.old.class }
         ensures class { self.new.class ≡ self.old.class }
+        ensures refused { IfErr result (λ _. Begins self.old.cells self.new.cells) }
         ensures places { IfOk result (λ ps. ArePlaced self.old.cells self.new.cells later.now.cells ps.items) }
     {
         let mut places = Vec::with_capacity(self.alloc, later.len())?;

@@ -1,6 +1,7 @@
 //! How many data of a group pass a test.
 ghost use Rattle.std.specs.Prelude.{◌≡◌, ◌<◌, ◌^◌, ℤ, ℕ, Bool, Option, if◌then◌else◌, option_map, refl, pos};
-ghost use Rattle.tall_value.specs.Cells.{Seen, seen};
+ghost use Rattle.tall_value.specs.declared.class.Kind.TheVariants.{Double};
+ghost use Rattle.tall_value.specs.Cells.{Seen, seen, seen_kind};
 ghost use Rattle.tall_group.specs.States.{IsTallyOf, double_or_none, is_missing, is_number_but_zero, never, tally_given};
 
 use crate::states::GroupState;
@@ -93,6 +94,8 @@ impl<T: Test> GroupState for Tally<T> {
 
     ghost gives = { tally_given T.test };
 
+    ghost kind_given = { λ a. Double };
+
     fn none() -> Tally<T> {
         Tally {
             count: 0,
@@ -123,6 +126,10 @@ impl<T: Test> GroupState for Tally<T> {
 
     fn value<'a>(self, _kind: Kind) -> Option<Cell<'a>> {
         double_cell(self.count as i128)
+    }
+
+    fn value_kind(_kind: Kind) -> Kind {
+        Kind::Double
     }
 
     ghost of_nothing = { λ low high r. (refl, refl) };

@@ -1,6 +1,7 @@
 //! The exact total of a group.
-ghost use Rattle.std.specs.Prelude.{◌≡◌, ℤ, ◌+ℤ◌, ◌≤ℤ◌, pos, negsuc, refl, option_map};
-ghost use Rattle.tall_value.specs.Cells.{Seen, seen};
+ghost use Rattle.std.specs.Prelude.{◌≡◌, ℤ, ◌+ℤ◌, ◌≤ℤ◌, pos, negsuc, refl, IfSome, option_map};
+ghost use Rattle.tall_value.specs.declared.class.Kind.TheVariants.{Double};
+ghost use Rattle.tall_value.specs.Cells.{Seen, seen, seen_kind};
 ghost use Rattle.tall_clamp.specs.Folds.{IsTotal};
 ghost use Rattle.tall_group.specs.States.{IsTotalOf, IsWithin, IsRange, double_or_none, total_given};
 ghost use Rattle.tall_value.specs.CellOperators.{or_zero};
@@ -46,7 +47,8 @@ fn or_zero(low: i128, high: i128, datum: Option<i128>) -> i128
 
 /// The cell of a double; none where its magnitude is above 2^53.
 pub(crate) fn double_cell<'a>(n: i128) -> Option<Cell<'a>>
-    ensures { option_map seen result ≡ double_or_none n }
+    ensures cell { option_map seen result ≡ double_or_none n }
+    ensures kind { IfSome result (λ c. seen_kind (seen c) ≡ Double) }
 {
     match Whole::of_number(n) {
         Ok(whole) => Some(Cell::Double(whole)),
@@ -62,6 +64,8 @@ impl GroupState for Total {
     ghost nothing = { (pos 0, 0) };
 
     ghost gives = { total_given };
+
+    ghost kind_given = { λ a. Double };
 
     fn none() -> Total {
         Total { total: 0, rows: 0 }
@@ -87,6 +91,10 @@ impl GroupState for Total {
 
     fn value<'a>(self, _kind: Kind) -> Option<Cell<'a>> {
         double_cell(self.total)
+    }
+
+    fn value_kind(_kind: Kind) -> Kind {
+        Kind::Double
     }
 
     ghost of_nothing = { λ low high r. (refl, refl) };

@@ -1,5 +1,5 @@
 //! The distinct cells of a column.
-ghost use Rattle.std.specs.Prelude.{◌≡◌, ◌++◌, [], ◌∷◌, IfErr, IfOk, List};
+ghost use Rattle.std.specs.Prelude.{◌≡◌, ◌++◌, ℕ, [], ◌∷◌, IfErr, IfOk, List, take};
 ghost use Rattle.std.specs.List.{All};
 ghost use Rattle.tall_value.specs.Cells.{Seen, is_nan, seen};
 ghost use Rattle.tall_value.specs.Classes.{kind_of};
@@ -73,11 +73,12 @@ impl UniqueFold {
         Ok(())
     }
 
-    /// Adds the cells of a column of the class; refused for want of memory alone, after some of the cells.
+    /// Adds the cells of a column of the class; refused for want of memory alone, after the first of the cells.
     pub fn add_column(&mut self, column: &Column) -> Result<(), AllocError>
         requires { column.now.class ≡ class_of_unique self.old }
         ensures class { class_of_unique self.new ≡ class_of_unique self.old }
         ensures cells { (cs : List Seen) → IsUniqueOf self.old cs → IfOk result (λ _. IsUniqueOf self.new (cs ++ column.now.cells)) }
+        ensures refused { (cs : List Seen) → IsUniqueOf self.old cs → IfErr result (λ _. (n : ℕ) × IsUniqueOf self.new (cs ++ take n column.now.cells)) }
     {
         for row in 0..column.len() {
             self.add(&column.get(row))?;

@@ -1,7 +1,7 @@
 use Rattle.std.proofs.Common.{◌≡◌, ap, sym, subst, [], ◌∷◌, ◌++◌}
 use Rattle.tall_value.specs.Cells.{seen, seen_kind}
 use Rattle.tall_group.specs.GroupFolds.{AreGroupsOf}
-use Rattle.tall_group.proofs.FoldLemmas.{more_rows, on_ok, one_kind}
+use Rattle.tall_group.proofs.FoldLemmas.{as_it_was, more_rows, on_err, on_ok, one_kind}
 use Rattle.tall_group.proofs.UniqueLemmas.{kind_is}
 use Rattle.tall_group.proofs.fold.GroupFold.add.Goals as goal
 
@@ -19,3 +19,8 @@ returns-clause-rows c ks vs u few =
     (λ g. more_rows s c.add.new.keys c.add.new.self ks vs (seen c.args.key.now ∷ []) (seen c.args.value.now ∷ []) c.add.ensures.class c.add.ensures.alike (one_kind (seen c.args.key.now) s.keys.class c.requires.key) (one_kind (seen c.args.value.now) s.value c.requires.data) u
     (subst (λ a. AreGroupsOf a c.add.new.keys.cells c.add.new.self (ks ++ seen c.args.key.now ∷ []) (vs ++ seen c.args.value.now ∷ [])) k g))
     (c.add.ensures.groups ks vs (subst (λ a. AreGroupsOf a s.keys.cells s.states ks vs) (sym k) u.groups) few)
+
+pub returns-clause-refused : goal.returns-clause-refused
+returns-clause-refused c ks vs u =
+    let s = c.args.self.now in
+    on_err c.add.result (λ h. as_it_was s c.add.new.keys c.add.new.self ks vs c.add.ensures.class c.add.ensures.alike h.0 h.1 u) c.add.ensures.refused

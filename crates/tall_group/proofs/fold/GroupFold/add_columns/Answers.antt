@@ -3,7 +3,7 @@ use Rattle.std.specs.List.{All}
 use Rattle.tall_value.specs.Classes.{kind_of}
 use Rattle.tall_value.specs.Columns.{HasKind}
 use Rattle.tall_group.specs.GroupFolds.{AreGroupsOf}
-use Rattle.tall_group.proofs.FoldLemmas.{more_rows, on_both}
+use Rattle.tall_group.proofs.FoldLemmas.{as_it_was, more_rows, on_both, on_err}
 use Rattle.tall_group.proofs.fold.GroupFold.add_columns.Goals as goal
 
 pub add_columns-requires-clause-groups : goal.add_columns-requires-clause-groups
@@ -22,3 +22,8 @@ returns-clause-rows c ks vs u few =
     (subst (λ k. AreGroupsOf (kind_of k) c.add_columns.new.keys.cells c.add_columns.new.self (ks ++ c.args.keys.now.cells) (vs ++ c.args.values.now.cells)) k g))
     c.add_columns.ensures.kinds
     (c.add_columns.ensures.groups ks vs (subst (λ k. AreGroupsOf (kind_of k) s.keys.cells s.states ks vs) (sym k) u.groups) few)
+
+pub returns-clause-refused : goal.returns-clause-refused
+returns-clause-refused c ks vs u =
+    let s = c.args.self.now in
+    on_err c.add_columns.result (λ h. as_it_was s c.add_columns.new.keys c.add_columns.new.self ks vs c.add_columns.ensures.class c.add_columns.ensures.alike h.0 h.1 u) c.add_columns.ensures.refused

@@ -3,7 +3,7 @@ use Rattle.std.specs.List.{All}
 use Rattle.tall_value.specs.Classes.{kind_of}
 use Rattle.tall_value.specs.Columns.{HasKind}
 use Rattle.tall_group.specs.GroupFolds.{AreGroupsOf, form_of}
-use Rattle.tall_group.proofs.FoldLemmas.{more_rows, on_ok}
+use Rattle.tall_group.proofs.FoldLemmas.{as_it_was, more_rows, on_err, on_ok}
 use Rattle.tall_group.proofs.fold.GroupFold.join.Goals as goal
 
 pub join-requires-clause-alike : goal.join-requires-clause-alike
@@ -25,3 +25,8 @@ returns-clause-rows c ks vs js ws u v few =
     on_ok c.join.result
     (λ g. more_rows s c.join.new.keys c.join.new.self ks vs js ws c.join.ensures.class c.join.ensures.alike (subst (λ k. All (HasKind (kind_of k)) js) c.requires.alike.keys v.key_kinds) (subst (λ k. All (HasKind (kind_of k)) ws) k v.data_kinds) u g)
     (c.join.ensures.groups (kind_of s.value) ks vs js ws u.groups (subst (λ k. AreGroupsOf (kind_of k) c.args.later.keys.cells c.args.later.states js ws) k v.groups) few)
+
+pub returns-clause-refused : goal.returns-clause-refused
+returns-clause-refused c ks vs u =
+    let s = c.args.self.now in
+    on_err c.join.result (λ h. as_it_was s c.join.new.keys c.join.new.self ks vs c.join.ensures.class c.join.ensures.alike h.0 h.1 u) c.join.ensures.refused

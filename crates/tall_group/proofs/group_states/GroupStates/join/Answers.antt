@@ -37,26 +37,26 @@ join_groups-requires-in-Least-clause-groups c =
     let r = c.requires.groups in
     let first = subst (λ s. AreGroupsOf r.0 c.args.keys.now.cells s r.1 r.2) c.in-Least.is r.5 in
     let second = subst (λ s. AreGroupsOf r.0 c.args.later_keys.now.cells s r.3 r.4) c.in-Least-later.is r.6 in
-    (low_of r.0, high_of r.0, range_of r.0, r.1, r.2, r.3, r.4, first, subst (λ xs. IsGroupsOf (IsBestOf int_min) c.args.later_keys.now.cells xs r.3 r.4) (sym c.as_slice-in-Least.ensures.value) second, r.7)
+    (low_of r.0, high_of r.0, range_of r.0, r.1, r.2, r.3, r.4, first, subst (λ xs. IsGroupsOf (IsBestOf int_min (low_of r.0) (high_of r.0)) c.args.later_keys.now.cells xs r.3 r.4) (sym c.as_slice-in-Least.ensures.value) second, r.7)
 
 pub returns-in-Least-later-clause-groups : goal.returns-in-Least-later-clause-groups
 returns-in-Least-later-clause-groups c a ks vs js ws h i few =
     let first = subst (λ s. AreGroupsOf a c.args.keys.now.cells s ks vs) c.in-Least.is h in
     let second = subst (λ s. AreGroupsOf a c.args.later_keys.now.cells s js ws) c.in-Least-later.is i in
-    c.join_groups-in-Least.ensures.groups (low_of a) (high_of a) ks vs js ws (range_of a) first (subst (λ xs. IsGroupsOf (IsBestOf int_min) c.args.later_keys.now.cells xs js ws) (sym c.as_slice-in-Least.ensures.value) second) few
+    c.join_groups-in-Least.ensures.groups (low_of a) (high_of a) ks vs js ws (range_of a) first (subst (λ xs. IsGroupsOf (IsBestOf int_min (low_of a) (high_of a)) c.args.later_keys.now.cells xs js ws) (sym c.as_slice-in-Least.ensures.value) second) few
 
 pub join_groups-requires-in-Greatest-clause-groups : goal.join_groups-requires-in-Greatest-clause-groups
 join_groups-requires-in-Greatest-clause-groups c =
     let r = c.requires.groups in
     let first = subst (λ s. AreGroupsOf r.0 c.args.keys.now.cells s r.1 r.2) c.in-Greatest.is r.5 in
     let second = subst (λ s. AreGroupsOf r.0 c.args.later_keys.now.cells s r.3 r.4) c.in-Greatest-later.is r.6 in
-    (low_of r.0, high_of r.0, range_of r.0, r.1, r.2, r.3, r.4, first, subst (λ xs. IsGroupsOf (IsBestOf int_max) c.args.later_keys.now.cells xs r.3 r.4) (sym c.as_slice-in-Greatest.ensures.value) second, r.7)
+    (low_of r.0, high_of r.0, range_of r.0, r.1, r.2, r.3, r.4, first, subst (λ xs. IsGroupsOf (IsBestOf int_max (low_of r.0) (high_of r.0)) c.args.later_keys.now.cells xs r.3 r.4) (sym c.as_slice-in-Greatest.ensures.value) second, r.7)
 
 pub returns-in-Greatest-later-clause-groups : goal.returns-in-Greatest-later-clause-groups
 returns-in-Greatest-later-clause-groups c a ks vs js ws h i few =
     let first = subst (λ s. AreGroupsOf a c.args.keys.now.cells s ks vs) c.in-Greatest.is h in
     let second = subst (λ s. AreGroupsOf a c.args.later_keys.now.cells s js ws) c.in-Greatest-later.is i in
-    c.join_groups-in-Greatest.ensures.groups (low_of a) (high_of a) ks vs js ws (range_of a) first (subst (λ xs. IsGroupsOf (IsBestOf int_max) c.args.later_keys.now.cells xs js ws) (sym c.as_slice-in-Greatest.ensures.value) second) few
+    c.join_groups-in-Greatest.ensures.groups (low_of a) (high_of a) ks vs js ws (range_of a) first (subst (λ xs. IsGroupsOf (IsBestOf int_max (low_of a) (high_of a)) c.args.later_keys.now.cells xs js ws) (sym c.as_slice-in-Greatest.ensures.value) second) few
 
 pub join_groups-requires-in-Nonzero-clause-groups : goal.join_groups-requires-in-Nonzero-clause-groups
 join_groups-requires-in-Nonzero-clause-groups c =

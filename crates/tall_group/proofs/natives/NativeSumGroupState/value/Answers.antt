@@ -10,8 +10,8 @@ use Rattle.tall_value.specs.Cells.{seen}
 use Rattle.tall_group.proofs.NativeLemmas.{native_value}
 use Rattle.tall_group.proofs.natives.NativeSumGroupState.value.Goals as goal
 
-pub returns : goal.returns
-returns c ds p =
+pub returns-clause-value : goal.returns-clause-value
+returns-clause-value c ds p =
     let l = c.self.inside.limits in
     let n : c.between.result ≡ nearest l.low l.high l.shift = search rules in
     let e : seen c.native_cell.result ≡ native_cell c.args.kind c.between.result = search rules in

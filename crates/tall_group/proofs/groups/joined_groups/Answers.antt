@@ -5,7 +5,7 @@ use Rattle.tall_group.specs.Keys.{ArePlaced}
 use Rattle.tall_group.specs.Places.{AreOf, group_at}
 use Rattle.tall_group.specs.States.{datum}
 use Rattle.tall_group.proofs.GroupLemmas.{extended, rows_few, within_states, at_length, later_few, each_part, joined_groups}
-use Rattle.tall_group.proofs.groups.join_groups.Goals as goal
+use Rattle.tall_group.proofs.groups.joined_groups.Goals as goal
 
 pub join_all-requires-clause-even : goal.join_all-requires-clause-even
 join_all-requires-clause-even g c =

@@ -7,7 +7,7 @@ use Rattle.tall_group.specs.Places.{AreOf, group_at}
 use Rattle.tall_group.specs.States.{low_of, high_of}
 use Rattle.tall_group.proofs.NativeLemmas.{range_of}
 use Rattle.tall_group.proofs.GroupLemmas.{extended, rows_few, within_states, at_length, more_groups}
-use Rattle.tall_group.proofs.groups.add_rows.Goals as goal
+use Rattle.tall_group.proofs.groups.added_rows.Goals as goal
 
 pub step_rows-requires-clause-even : goal.step_rows-requires-clause-even
 step_rows-requires-clause-even g c =
