@@ -1,3 +1,4 @@
 pub mod ColumnLemmas
 pub mod TableLemmas
 pub mod FormLemmas
+pub mod NamedLemmas

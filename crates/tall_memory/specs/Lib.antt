@@ -3,3 +3,4 @@ pub mod Columns
 pub mod Indexes
 pub mod Ends
 pub mod Shapes
+pub mod Named

@@ -109,7 +109,7 @@ fn column_index(alloc: Global, x: &Column, index: &Index<'_>) -> Result<MemoryVa
 }
 
 /// Adds a variable; after a refusal the table is only dropped.
-pub(crate) fn add_variable(t: &mut Table, name: &str, x: Column) -> Result<(), AllocError>
+pub fn add_variable(t: &mut Table, name: &str, x: Column) -> Result<(), AllocError>
     requires new_name { column_named name.now t.old ≡ None }
     requires same_height { FitsHeight (length x.cells) t.old }
     ensures { OnOk result (t.new ≡ t.old ++ (name.now, x) ∷ []) }

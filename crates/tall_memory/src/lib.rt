@@ -8,6 +8,7 @@ mod applications;
 mod arguments;
 mod ends;
 mod faults;
+mod functions;
 mod indexing;
 mod operators;
 mod values;
@@ -15,8 +16,12 @@ mod values;
 pub use applications::{Application, Operation, application_of};
 pub use ends::memory_end;
 pub use faults::{MemoryFault, refused_class};
-pub use indexing::{Index, constant_named, memory_index, memory_member};
-pub use operators::{column_answer, memory_binary, memory_infix, memory_prefix, memory_unary};
+pub use functions::value_function_named;
+pub use indexing::{Index, add_variable, constant_named, memory_index, memory_member};
+pub use operators::{
+    binary_of, column_answer, memory_binary, memory_infix, memory_prefix, memory_unary,
+    scalars_fit, unary_of,
+};
 pub use values::{MemoryRef, MemoryValue};
 
 #[cfg(test)]

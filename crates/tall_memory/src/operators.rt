@@ -201,7 +201,8 @@ pub fn memory_binary(
     }
 }
 
-fn unary_of(op: Prefix) -> Unary
+/// The operator of one operand that a sign stands for.
+pub fn unary_of(op: Prefix) -> Unary
     ensures { result ≡ unary_of op }
 {
     match op {
@@ -211,7 +212,8 @@ fn unary_of(op: Prefix) -> Unary
     }
 }
 
-fn binary_of(op: Infix) -> Binary
+/// The operator of two operands that a sign stands for; after their test `*` and `/` are `.*` and `./`.
+pub fn binary_of(op: Infix) -> Binary
     ensures { result ≡ binary_of op }
 {
     match op {
@@ -233,7 +235,7 @@ fn binary_of(op: Infix) -> Binary
 }
 
 /// `*` needs a scalar on at least one side, and `/` one on its right.
-fn scalars_fit(op: Infix, left: bool, right: bool) -> bool
+pub fn scalars_fit(op: Infix, left: bool, right: bool) -> bool
     ensures { result ≡ scalars_fit op left right }
 {
     match op {
