@@ -1,3 +1,4 @@
 pub mod ReductionLemmas
 pub mod DistinctLemmas
 pub mod ScanLemmas
+pub mod GroupLemmas
