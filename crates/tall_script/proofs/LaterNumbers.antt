@@ -10,11 +10,11 @@ use Rattle.tall_script.specs.NumberLaws.{numbers_of_body, numbers_of_statements,
 use Rattle.tall_script.proofs.NumbersInTurn.{script_in_turn}
 
 -- in two parts
-parted : (m n : ℕ) (xs ys : List ℕ) → AreInTurn m (xs ++ ys) n → (k : ℕ) × AreInTurn m xs k × AreInTurn k ys n
+pub parted : (m n : ℕ) (xs ys : List ℕ) → AreInTurn m (xs ++ ys) n → (k : ℕ) × AreInTurn m xs k × AreInTurn k ys n
 parted m n [] ys h = (m, refl, h)
 parted m n (x ∷ xs) ys h = (let w = parted (suc m) n xs ys h.1 in (w.0, (h.0, w.1), w.2))
 
-up_to : (m n : ℕ) (xs : List ℕ) → AreInTurn m xs n → (m ≤ n) × All (λ x. x < n) xs
+pub up_to : (m n : ℕ) (xs : List ℕ) → AreInTurn m xs n → (m ≤ n) × All (λ x. x < n) xs
 up_to m n [] h = (at_most m n h, All-nil (λ x. x < n)) where
   at_most : (a b : ℕ) → a ≡ b → a ≤ b
   at_most a b e = omega (arith, e)

@@ -1,7 +1,7 @@
 mod RunSteps
 mod StoresKept
 mod Numbers
-mod NumbersInTurn
+pub mod NumbersInTurn
 mod OpeningsKept
 pub mod OneAnswer
 mod Sizes
@@ -13,8 +13,10 @@ mod RunsStand
 mod QuietCalls
 mod SizesApart
 mod SizedOpenings
-mod LaterNumbers
+pub mod LaterNumbers
 mod PhaseStores
-mod VerticesAdded
+pub mod VerticesAdded
 mod PairTables
 mod ValuesAdded
+mod GatheredClasses
+mod ValuesComplete

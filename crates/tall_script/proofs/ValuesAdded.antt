@@ -95,7 +95,7 @@ module _ (columns : Columns) (f : ℕ → Tall) where
   abbrev seen_table : List (List ℕ × ℕ) → TallValue
   seen_table t = tall_table (each_named f t)
 
-  with_data : (at : At) (t : List (List ℕ × ℕ)) (key value : List ℕ) (m : Method) → m ≢ method.Count
+  pub with_data : (at : At) (t : List (List ℕ × ℕ)) (key value : List ℕ) (m : Method) → m ≢ method.Count
       → groups_value at (seen_table t) key m value ≡ and_then (tall_variable (each_named f t) key) (λ g. and_then (tall_variable (each_named f t) value) (λ v. summary_table (summary_names m key value) (group_columns at m (g ∷ v ∷ []))))
   with_data at t key value method.Count h = absurd (h refl)
   with_data at t key value method.Sum h = refl

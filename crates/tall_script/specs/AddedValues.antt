@@ -19,7 +19,8 @@ use Rattle.tall_semantics.specs.Operations as op
 use Rattle.tall_semantics.specs.Talls.{Tall}
 use Rattle.tall_local.specs.Applications.{Operation, reduce, height, scan, head, tail, distinct, groups, unary, Application, constant, to_one, to_two}
 use Rattle.tall_local.specs.Arguments.{Index, rows_at, all_variables_at}
-use Rattle.tall_local.specs.Memory.{scalar}
+use Rattle.tall_local.specs.Memory.{Memory, scalar, column, table, texts}
+use Rattle.tall_local.specs.MemoryLaws.{HasItsClass, HaveTheirClasses}
 use Rattle.tall_local.specs.MemoryFunctions.{paired}
 use Rattle.tall_local.specs.Names.{named, names_of, each_named}
 use Rattle.tall_local.specs.Values.{Value, datastore, tall_table, deferred, in_memory}
@@ -110,3 +111,24 @@ AreInGraph n (to_two o v w) = IsInGraph n v × IsInGraph n w
 abbrev pub IndexIsInGraph : (n : ℕ) → Index PlacedValue → Type 0
 IndexIsInGraph n (rows_at v) = IsInGraph n v
 IndexIsInGraph n (all_variables_at v) = IsInGraph n v
+
+-- ---- what a value's cells are
+
+-- the cells of columns have the column's class
+abbrev pub CellsHaveClass : Memory → Type 0
+CellsHaveClass (scalar c) = Unit {0}
+CellsHaveClass (column x) = HasItsClass x
+CellsHaveClass (table t) = HaveTheirClasses t
+CellsHaveClass (texts ts) = Unit {0}
+
+abbrev pub HeldCellsHaveClass : PlacedValue → Type 0
+HeldCellsHaveClass (datastore place) = Unit {0}
+HeldCellsHaveClass (tall_table t) = Unit {0}
+HeldCellsHaveClass (deferred i) = Unit {0}
+HeldCellsHaveClass (in_memory v) = CellsHaveClass v
+
+abbrev pub IsInMemory : TallValue → Type 0
+IsInMemory (datastore place) = ⊥
+IsInMemory (tall_table t) = ⊥
+IsInMemory (deferred x) = ⊥
+IsInMemory (in_memory v) = Unit {0}

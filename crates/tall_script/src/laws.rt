@@ -1,5 +1,5 @@
 //! Laws of the definitions, each the contract of a function without a body.
-ghost use Rattle.std.specs.Prelude.{◌≡◌, ◌≤◌, ◌++◌, ℕ, Bool, true, List, [], ◌∷◌, length, map, slice_get, Ok, Some, Result};
+ghost use Rattle.std.specs.Prelude.{◌≡◌, ◌≤◌, ◌⊎◌, ◌++◌, ℕ, Bool, true, List, [], ◌∷◌, length, map, slice_get, Ok, Some, Result};
 ghost use Rattle.std.specs.List.{All, flat_map};
 ghost use Rattle.tall_column.specs.Columns.{SeenColumn};
 ghost use Rattle.tall_cut.specs.declared.cutter.ReadSize.{ReadSize};
@@ -19,7 +19,7 @@ ghost use Rattle.tall_script.specs.BlockLaws.{IsStoreOrStop};
 ghost use Rattle.tall_store.specs.Blocks.{in_blocks};
 ghost use Rattle.tall_cut.specs.Rows.{Fields};
 ghost use Rattle.tall_script.specs.AnswerLaws.{HasOneAllowance, HasOneAnswer};
-ghost use Rattle.tall_script.specs.Gathers.{gather_all, gather_value, talls_in};
+ghost use Rattle.tall_script.specs.Gathers.{gather_all, gather_value, gathered_value, talls_in};
 ghost use Rattle.tall_script.specs.MapReduce.{map_phase, pairs_table, reduce_phase};
 ghost use Rattle.tall_script.specs.MapReduceLaws.{joined_results, mapped_block, reduced_key};
 ghost use Rattle.tall_script.specs.NumberLaws.{AreBelow, AreInTurn, Ascends, numbers_of, numbers_of_body, numbers_of_script, numbers_of_statements};
@@ -36,9 +36,10 @@ ghost use Rattle.tall_script.specs.StatesFollow.{Follows, done_state};
 ghost use Rattle.tall_script.specs.TallTables.{tall_of_store};
 ghost use Rattle.tall_local.specs.Applications.{Application};
 ghost use Rattle.tall_local.specs.Arguments.{Index, index_by};
-ghost use Rattle.tall_script.specs.AddedValues.{AddsFor, AddsForIndex, AreInGraph, IndexIsInGraph, IsInGraph, PlacedValue, application_by, value_by};
+ghost use Rattle.tall_script.specs.AddedValues.{AddsFor, AddsForIndex, AreInGraph, CellsHaveClass, HeldCellsHaveClass, IndexIsInGraph, IsInGraph, IsInMemory, PlacedValue, application_by, value_by};
 ghost use Rattle.tall_script.specs.VertexLaws.{Adds, IsLower, MayFollow, MayStandBeside, variable_of};
-ghost use Rattle.tall_semantics.specs.Deferred.{IsMeaning, Vertex};
+ghost use Rattle.tall_semantics.specs.Deferred.{IsMeaning, IsOrdered, Vertex};
+ghost use Rattle.tall_semantics.specs.RowsOfSpaces.{AreColumns};
 ghost use Rattle.tall_semantics.specs.Faults.{At};
 ghost use Rattle.tall_value.specs.declared.class.Class.{Class};
 ghost use Rattle.tall_script.specs.WellFormed.{GivesStanding, GiveStanding, HaveNoFault, IsWellFormed, Stands};
@@ -79,14 +80,24 @@ pub fn added_vertices_keep_the_numbers()
 
 /// The vertices that an operator, a function or an index adds to a graph, in order, are those of which its values are solutions: in
 /// any solution of the longer graph the word of the definitions over the values of the operands is the value of the added places. They
-/// stand in one of the forms that keep the numbers.
+/// stand in one of the forms that keep the numbers, and each value that isn't in memory is such a one.
 pub fn values_are_those_of_added_vertices()
     ensures applications { (columns : Columns) (f : ℕ → Tall) (vs ws : List Vertex) (at : At) (a : Application PlacedValue) (w : PlacedValue) → AddsFor at (length vs) a ws w
         → IsMeaning columns (vs ++ ws) f → application_value at (application_by f a) ≡ Ok (value_by f w) }
     ensures indexes { (columns : Columns) (f : ℕ → Tall) (vs ws : List Vertex) (at : At) (v : PlacedValue) (i : Index PlacedValue) (w : PlacedValue) → AddsForIndex at (length vs) v i ws w
         → IsMeaning columns (vs ++ ws) f → index_value_of at (value_by f v) (Some (index_by (value_by f) i)) ≡ Ok (value_by f w) }
     ensures added { (at : At) (n : ℕ) (a : Application PlacedValue) (ws : List Vertex) (w : PlacedValue) → AddsFor at n a ws w → AreInGraph n a → Adds at n ws }
+    ensures applications_complete { (at : At) (n : ℕ) (f : ℕ → Tall) (a : Application PlacedValue) (w : TallValue) → application_value at (application_by f a) ≡ Ok w
+        → IsInMemory w ⊎ ((ws : List Vertex) × (v : PlacedValue) × AddsFor at n a ws v) }
+    ensures indexes_complete { (at : At) (n : ℕ) (f : ℕ → Tall) (v : PlacedValue) (i : Index PlacedValue) (w : TallValue) → index_value_of at (value_by f v) (Some (index_by (value_by f) i)) ≡ Ok w
+        → IsInMemory w ⊎ ((ws : List Vertex) × (x : PlacedValue) × AddsForIndex at n v i ws x) }
     ensures added_by_index { (at : At) (n : ℕ) (v : PlacedValue) (i : Index PlacedValue) (ws : List Vertex) (w : PlacedValue) → AddsForIndex at n v i ws w → IsInGraph n v → IndexIsInGraph n i → Adds at n ws }
+{}
+
+/// What a gather gives of the values of a graph has cells of its columns' classes.
+pub fn gathered_values_have_their_classes()
+    ensures { (columns : Columns) (of_stores : ℕ → List ℕ) (vs : List Vertex) (f : ℕ → Tall) → IsMeaning columns vs f → IsOrdered vs → AreColumns columns of_stores vs
+        → (v : PlacedValue) (m : Memory) → IsInGraph (length vs) v → HeldCellsHaveClass v → gathered_value (value_by f v) ≡ Ok m → CellsHaveClass m }
 {}
 
 /// For each name of a script and files there is exactly one answer, and one number of times that a file may be opened.
