@@ -1,0 +1,9 @@
+mod NodeLaws
+pub mod Grown
+pub mod Operands
+mod Variables
+mod RowLaws
+mod IndexLaws
+mod FormLaws
+mod GroupLaws
+pub mod TurnLaws

@@ -1,0 +1,15 @@
+-- Each arm is the word's case.
+use Rattle.std.specs.Prelude.{Some}
+use Rattle.tall_local.specs.Arguments.{rows_at}
+use Rattle.tall_local.specs.MemoryIndexing.{memory_index}
+use Rattle.std.proofs.Common.{subst}
+use Rattle.tall_memory.specs.Values.{Gives, ref_seen}
+use Rattle.tall_deferred.proofs.indexes.memory_rows.Goals as goal
+
+pub returns-in-Memory-clause-given : goal.returns-in-Memory-clause-given
+returns-in-Memory-clause-given c at columns f m =
+    rw c.in-Memory.is (c.in_memory.ensures.given f (memory_index (ref_seen c.args.v.now) (Some (rows_at (ref_seen c.in-Memory.i))))
+    (subst (λ i. Gives (memory_index (ref_seen c.args.v.now) (Some (rows_at i))) c.memory_index.result) c.lent_again.ensures c.memory_index.ensures))
+
+pub returns-in-Tall-clause-given : goal.returns-in-Tall-clause-given
+returns-in-Tall-clause-given c at columns f m = rw c.in-Tall.is (c.tall_rows_of_memory.ensures at columns f m)

@@ -1,0 +1,8 @@
+-- Each arm is the word's case.
+use Rattle.tall_deferred.proofs.operators.binary_value.Goals as goal
+
+pub returns-in-Memory-clause-given : goal.returns-in-Memory-clause-given
+returns-in-Memory-clause-given c columns f m = rw c.in-Memory.is (c.after_memory.ensures.given columns f m)
+
+pub returns-in-Tall-clause-given : goal.returns-in-Tall-clause-given
+returns-in-Tall-clause-given c columns f m = rw c.in-Tall.is (c.after_tall.ensures.given columns f m)

@@ -1,0 +1,9 @@
+pub mod Faults
+pub mod Values
+pub mod Answers
+pub mod Operands
+pub mod Rows
+pub mod Lists
+pub mod Forms
+pub mod Groups
+pub mod Turns
