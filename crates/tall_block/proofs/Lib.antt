@@ -1,2 +1,10 @@
 pub mod Operators
+pub mod Heights
 pub mod OperandLaws
+pub mod ValueLaws
+pub mod StepLaws
+pub mod RowBackLaws
+pub mod WorkLaws
+pub mod StartLaws
+pub mod ScanLaws
+pub mod PassBlockLaws

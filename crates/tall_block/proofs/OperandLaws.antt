@@ -1,8 +1,7 @@
 -- What is accepted has operands of the classes that its operation takes; and over operands with rows, none of which is a fault, the
 -- outcome is that of the operation.
-use Rattle.std.specs.Prelude.{◌≡◌, refl, ℕ, Bool, true, false, None, Some, IsOk, Result, Ok, Err, List, [], ◌∷◌, map, slice_get}
-use Rattle.std.specs.HashMap.{HashMap}
-use Rattle.std.proofs.Common.{ap, sym, subst, ◌∙◌, IfOk, ◌⊎◌, inl, inr, length}
+use Rattle.std.specs.Prelude.{◌≡◌, refl, ℕ, Bool, true, false, Some, IsOk, Result, Ok, Err, List, [], ◌∷◌, map, slice_get}
+use Rattle.std.proofs.Common.{ap, sym, subst, ◌∙◌, IfOk, inl, inr, length}
 use Rattle.tall_value.specs.declared.class.Class.{Class}
 use Rattle.tall_value.specs.declared.class.Class.TheVariants as class
 use Rattle.tall_value.specs.declared.faults.ClassFault.{ClassFault}
@@ -22,24 +21,25 @@ use Rattle.tall_semantics.specs.Outcomes.{Outcome, rows, scalar, fault, fault_of
 use Rattle.tall_semantics.specs.Spaces.{Space, is_single}
 use Rattle.tall_semantics.specs.Shapes.{Shape, ShapeRefusal, allowed, placed, common, masked_class, masked, on_column, place_of}
 use Rattle.tall_semantics.specs.ShapesInOrder.{IsMade, shape_at}
-use Rattle.tall_semantics.specs.Talls.{Columns, Tall, unless}
+use Rattle.tall_semantics.specs.Talls.{Tall, unless}
 use Rattle.tall_semantics.specs.Deferred.{Vertex}
 use Rattle.tall_semantics.proofs.ShapeLaws.{column_is, place_ok, shaped_is}
 use Rattle.tall_semantics.proofs.ShapesInOrderLaws.{shapes_mean}
 use Rattle.tall_blocks.specs.Cut.{IsScalar, IsKnownScalar, CanBeCut, AreAligned}
-use Rattle.tall_block.specs.OfBlocks.{AreShown, IsOperation, IsThere, ShowsNode, vertex_over}
+use Rattle.tall_block.specs.OfBlocks.{IsOperation, ShowsNode, vertex_over}
 use Rattle.tall_block.specs.Shown.{Shows}
+use Rattle.tall_block.proofs.Operators.{shown_long}
 
-abbrev class_ok : Class → Result Class ClassFault
+abbrev pub class_ok : Class → Result Class ClassFault
 class_ok c = Ok c
 
-class_taken : (c : Result Class ClassFault) (s : Result Space ShapeRefusal) (p : Class × Space) → placed (allowed c) s ≡ place_ok p → c ≡ class_ok p.0
+pub class_taken : (c : Result Class ClassFault) (s : Result Space ShapeRefusal) (p : Class × Space) → placed (allowed c) s ≡ place_ok p → c ≡ class_ok p.0
 class_taken (Ok c) (Ok s) p h = ap (λ (r : Result (Class × Space) ShapeRefusal). elim r [ Ok q ↦ class_ok q.0 | Err e ↦ class_ok c ]) h
 class_taken (Ok c) (Err e) p h = absurd (cc)
 class_taken (Err MixedClass) s p h = absurd (cc)
 class_taken (Err BadClass) s p h = absurd (cc)
 
-accepted_place : (vs : List Vertex) → IsMade vs → (i : ℕ) (op : Op) (args : List ℕ) → IsOperation vs i op args
+pub accepted_place : (vs : List Vertex) → IsMade vs → (i : ℕ) (op : Op) (args : List ℕ) → IsOperation vs i op args
     → (p : Class × Space) × (place_of op (map (shape_at vs) args) ≡ place_ok p) × (p.0 ≡ (shape_at vs i).class)
 accepted_place vs made i op args e =
     let w = shaped_is op (map (shape_at vs) args) (place_of op (map (shape_at vs) args)) (shape_at vs i) (shapes_mean vs made i (vertex_over e.0 op args) e.1) in
@@ -54,7 +54,7 @@ pub ok_of : (r : Result Class ClassFault) (c : Class) → r ≡ class_ok c → I
 ok_of (Ok d) c h = refl
 ok_of (Err e) c h = absurd (cc)
 
-ok_inside : (c d : Class) → class_ok c ≡ class_ok d → c ≡ d
+pub ok_inside : (c d : Class) → class_ok c ≡ class_ok d → c ≡ d
 ok_inside c d h = ap (λ (r : Result Class ClassFault). elim r [ Ok z ↦ z | Err e ↦ c ]) h
 
 pub made_class : {E : Type 0} (result : Result SeenColumn E) (r : Result Class ClassFault) (c : Class) → IfOk result (λ d. r ≡ class_ok d.class) → r ≡ class_ok c → IfOk result (λ d. d.class ≡ c)
@@ -114,7 +114,7 @@ left_taken vs made i s a op k e p q r =
 
 -- columns have equally many rows
 
-shown_rows : (x : Outcome) (cs : List Seen) → Shows x cs → x ≡ rows (rows_in x)
+pub shown_rows : (x : Outcome) (cs : List Seen) → Shows x cs → x ≡ rows (rows_in x)
 shown_rows (rows rs) cs q = refl
 shown_rows (scalar c) cs q = absurd q
 shown_rows (fault f) cs q = absurd q
@@ -165,14 +165,15 @@ filter_taken vs made i a m e =
 pub filter_class : {E : Type 0} (result : Result SeenColumn E) (c d : Class) → c ≡ d → IfOk result (λ k. k.class ≡ c) → IfOk result (λ k. k.class ≡ d)
 filter_class result c d q h = subst (λ (x : Class). IfOk result (λ (k : SeenColumn). k.class ≡ x)) q h
 
-pub filter_shown : {S E : Type 0} (vs : List Vertex) (table : List (List ℕ × SeenColumn)) (made : HashMap ℕ SeenColumn S) (result : Result SeenColumn E) (i a m : ℕ) → IsThere vs table made a → IsThere vs table made m
-    → IfOk result (λ c. (h : ℕ → Outcome) → AreShown vs table made h → length (rows_in (h m)) ≡ length (rows_in (h a)) → Shows (rows (kept (rows_in (h a)) (cells_in (h m)))) c.cells)
-    → IfOk result (λ c. ShowsNode vs table made i filter (a ∷ m ∷ []) c)
-filter_shown vs table made (Ok column) i a m left right w = λ columns so_far f cut h block q at e.
-    let l = block.shown a left.0 left.1 in
-    let r = block.shown m right.0 right.1 in
+pub filter_shown : {E : Type 0} (vs : List Vertex) (result : Result SeenColumn E) (i a m : ℕ) (x mask : SeenColumn)
+    → IfOk result (λ c. length mask.cells ≡ length x.cells → (y z : Outcome) → Shows y x.cells → Shows z mask.cells → Shows (rows (kept (rows_in y) (cells_in z))) c.cells)
+    → IfOk result (λ c. ShowsNode vs i filter (a ∷ m ∷ []) ((a, x) ∷ (m, mask) ∷ []) c)
+filter_shown vs (Ok column) i a m x mask w = λ columns so_far f cut h block q show at e.
+    let l : Shows (h a) x.cells = show.0 in
+    let r : Shows (h m) mask.cells = show.1.0 in
     let own : Outcome = rows (kept (rows_in (h a)) (cells_in (h m))) in
-    let is : h i ≡ own = block.over.made i (vertex_over at filter (a ∷ m ∷ [])) e q ∙ two_sound (h a) (h m) own left.0.cells right.0.cells l r in
-    let same = aligned_rows vs cut h block.aligned i a m at filter left.0.cells right.0.cells e q (block.can i (vertex_over at filter (a ∷ m ∷ [])) e q) l r in
-    subst (λ (o : Outcome). Shows o column.cells) (sym is) (w h block.shown same)
-filter_shown vs table made (Err x) i a m left right w = tt
+    let is : h i ≡ own = block.over.made i (vertex_over at filter (a ∷ m ∷ [])) e q ∙ two_sound (h a) (h m) own x.cells mask.cells l r in
+    let same = aligned_rows vs cut h block.aligned i a m at filter x.cells mask.cells e q (block.can i (vertex_over at filter (a ∷ m ∷ [])) e q) l r in
+    let long : length mask.cells ≡ length x.cells = shown_long (h m) mask.cells r ∙ (same ∙ sym (shown_long (h a) x.cells l)) in
+    subst (λ (o : Outcome). Shows o column.cells) (sym is) (w long (h a) (h m) l r)
+filter_shown vs (Err e) i a m x mask w = tt

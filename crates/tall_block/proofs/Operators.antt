@@ -1,6 +1,8 @@
 -- Operators over a block's columns, which count rows from 0, tell those over rows with numbers of their own.
-use Rattle.std.specs.Prelude.{◌≡◌, refl, ℕ, suc, ◌+◌, Bool, true, false, Result, Ok, Err, List, [], ◌∷◌, length}
+use Rattle.std.specs.Prelude.{◌≡◌, refl, ℕ, suc, ◌+◌, ◌<◌, true, false, Result, Ok, Err, List, [], ◌∷◌, ◌++◌, length}
 use Rattle.std.proofs.Common.{ap, sym, subst, ◌∙◌, arith, IfOk}
+use Rattle.tall_value.specs.declared.class.Kind.{Kind}
+use Rattle.tall_value.specs.declared.functions.Scan.{Scan}
 use Rattle.tall_value.specs.declared.faults.CellFault.{CellFault}
 use Rattle.tall_value.specs.declared.operators.Binary.{Binary}
 use Rattle.tall_value.specs.declared.operators.Unary.{Unary}
@@ -15,47 +17,54 @@ use Rattle.tall_dense.specs.declared.faults.OpFault.{OpFault}
 use Rattle.tall_dense.specs.declared.faults.OpFault.TheVariants as op_fault
 use Rattle.tall_semantics.specs.Faults.{At}
 use Rattle.tall_semantics.specs.Outcomes.{Outcome, rows, scalar, fault, rows_in, cells_in, row_by_row, elementwise_one, elementwise_two}
-use Rattle.tall_blocks.specs.Carries.{Rows, RowsOrFault}
+use Rattle.tall_semantics.specs.ScanCarries.{fold_of}
+use Rattle.tall_blocks.specs.Carries.{Rows, RowsOrFault, or_inexact, scanned_behind}
 use Rattle.tall_blocks.specs.RowPlaces.{renumbered, with_numbers}
 use Rattle.tall_blocks.proofs.RowPlaceLaws.{each_counted, pair_counted, renumbered_cells, kept_cells}
 use Rattle.tall_block.specs.Shown.{Shows, Tells}
 
--- as many rows, where there is no fault
-abbrev IsLong : ℕ → RowsOrFault → Type 0
-IsLong n (Ok rs) = length rs ≡ n
-IsLong n (Err e) = Unit {0}
+-- as many rows, or a fault at a place before the end of the column
+abbrev pub IsLong : (n bound : ℕ) → RowsOrFault → Type 0
+IsLong n bound (Ok rs) = length rs ≡ n
+IsLong n bound (Err e) = e.0 < bound
 
-front_long : (n k : ℕ) (c : Seen) (x : RowsOrFault) → IsLong n x → IsLong (suc n) (in_front (k, c) x)
-front_long n k c (Ok rs) h = ap suc h
-front_long n k c (Err e) h = tt
+front_long : (n bound k : ℕ) (c : Seen) (x : RowsOrFault) → IsLong n bound x → IsLong (suc n) bound (in_front (k, c) x)
+front_long n bound k c (Ok rs) h = ap suc h
+front_long n bound k c (Err e) h = h
 
-row_long : (n k : ℕ) (g : Result Seen CellFault) (x : RowsOrFault) → IsLong n x → IsLong (suc n) (at_row k g x)
-row_long n k (Ok c) x h = front_long n k c x h
-row_long n k (Err e) x h = tt
+pub row_long : (n bound k : ℕ) (g : Result Seen CellFault) (x : RowsOrFault) → k < bound → IsLong n bound x → IsLong (suc n) bound (at_row k g x)
+row_long n bound k (Ok c) x l h = front_long n bound k c x h
+row_long n bound k (Err e) x l h = l
 
-each_long : (g : Seen → Result Seen CellFault) (rs : Rows) → IsLong (length rs) (each_row g rs)
-each_long g [] = refl
-each_long g (r ∷ rs) = row_long (length rs) r.0 (g r.1) (each_row g rs) (each_long g rs)
+pub each_long : (g : Seen → Result Seen CellFault) (m bound : ℕ) (cs : List Seen) → m + length cs ≡ bound → IsLong (length cs) bound (each_row g (numbered m cs))
+each_long g m bound [] l = refl
+each_long g m bound (c ∷ cs) l = row_long (length cs) bound m (g c) (each_row g (numbered (m + 1) cs)) (omega (arith, l)) (each_long g (m + 1) bound cs (omega (arith, l)))
 
-pair_long : (g : Seen → Seen → Result Seen CellFault) (rs ss : Rows) → length ss ≡ length rs → IsLong (length rs) (each_pair g rs ss)
-pair_long g [] ss h = refl
-pair_long g (r ∷ rs) [] h = absurd cc
-pair_long g (r ∷ rs) (s ∷ ss) h = row_long (length rs) r.0 (g r.1 s.1) (each_pair g rs ss) (pair_long g rs ss (omega (arith, h)))
+pub pair_long : (g : Seen → Seen → Result Seen CellFault) (m bound : ℕ) (cs ds : List Seen) → length ds ≡ length cs → m + length cs ≡ bound → IsLong (length cs) bound (each_pair g (numbered m cs) (numbered m ds))
+pair_long g m bound [] ds h l = refl
+pair_long g m bound (c ∷ cs) [] h l = absurd (omega (arith, h))
+pair_long g m bound (c ∷ cs) (d ∷ ds) h l = row_long (length cs) bound m (g c d) (each_pair g (numbered (m + 1) cs) (numbered (m + 1) ds)) (omega (arith, l)) (pair_long g (m + 1) bound cs ds (omega (arith, h)) (omega (arith, l)))
 
-numbered_long : (n : ℕ) (cs : List Seen) → length (numbered n cs) ≡ length cs
+pub scan_long : (s : Scan) (a : Kind) (before : List Seen) (m bound : ℕ) (cs : List Seen) → m + length cs ≡ bound → IsLong (length cs) bound (scanned_behind s a before (numbered m cs))
+scan_long s a before m bound [] l = refl
+scan_long s a before m bound (c ∷ cs) l =
+    let next : List Seen = before ++ c ∷ [] in
+    row_long (length cs) bound m (or_inexact (fold_of s a next)) (scanned_behind s a next (numbered (m + 1) cs)) (omega (arith, l)) (scan_long s a next (m + 1) bound cs (omega (arith, l)))
+
+pub numbered_long : (n : ℕ) (cs : List Seen) → length (numbered n cs) ≡ length cs
 numbered_long n [] = refl
 numbered_long n (c ∷ cs) = ap suc (numbered_long (n + 1) cs)
 
-cells_long : (rs : Rows) → length (cells rs) ≡ length rs
+pub cells_long : (rs : Rows) → length (cells rs) ≡ length rs
 cells_long [] = refl
 cells_long (r ∷ rs) = ap suc (cells_long rs)
 
-cells_numbered : (n : ℕ) (cs : List Seen) → cells (numbered n cs) ≡ cs
+pub cells_numbered : (n : ℕ) (cs : List Seen) → cells (numbered n cs) ≡ cs
 cells_numbered n [] = refl
 cells_numbered n (c ∷ cs) = ap (λ ds. c ∷ ds) (cells_numbered (n + 1) cs)
 
-counted_long : (rs : Rows) → length (numbered 0 (cells rs)) ≡ length rs
-counted_long rs = numbered_long 0 (cells rs) ∙ cells_long rs
+pub from_none : (n : ℕ) → 0 + n ≡ n
+from_none n = omega (arith)
 
 abbrev ok_rows : Rows → RowsOrFault
 ok_rows rs = Ok rs
@@ -64,21 +73,21 @@ abbrev err_row : ℕ → CellFault → RowsOrFault
 err_row k e = Err (k, e)
 
 -- y is z with the numbers of the rows rs
-told : (at : At) (rs : Rows) (y z : RowsOrFault) → y ≡ with_numbers rs z → IsLong (length rs) z → (result : Result SeenColumn OpFault)
+pub told : (at : At) (rs : Rows) (y z : RowsOrFault) → y ≡ with_numbers rs z → IsLong (length rs) (length rs) z → (result : Result SeenColumn OpFault)
     → Answers z (λ (c : SeenColumn). c.cells) result → Tells at rs (row_by_row at y) result
 told at rs y z q long (Ok column) h =
     let others : Rows = numbered 0 column.cells in
     let is : y ≡ ok_rows (renumbered rs others) = q ∙ ap (with_numbers rs) h in
-    let same : length others ≡ length rs = subst (IsLong (length rs)) h long in
+    let same : length others ≡ length rs = subst (IsLong (length rs) (length rs)) h long in
     subst (λ (o : RowsOrFault). Shows (row_by_row at o) column.cells) (sym is) (renumbered_cells rs others same ∙ cells_numbered 0 column.cells)
-told at rs y z q long (Err (op_fault.At row e)) h = ap (row_by_row at) (q ∙ ap (with_numbers rs) h)
+told at rs y z q long (Err (op_fault.At row e)) h = (subst (IsLong (length rs) (length rs)) h long, ap (row_by_row at) (q ∙ ap (with_numbers rs) h))
 told at rs y z q long (Err op_fault.Memory) h = tt
 
 each_told : (at : At) (g : Seen → Result Seen CellFault) (cs : List Seen) (rs : Rows) → cells rs ≡ cs → (result : Result SeenColumn OpFault)
     → Answers (each_row g (numbered 0 cs)) (λ (c : SeenColumn). c.cells) result → Tells at rs (row_by_row at (each_row g rs)) result
 each_told at g cs rs q result h =
     let z : RowsOrFault = each_row g (numbered 0 (cells rs)) in
-    told at rs (each_row g rs) z (each_counted g rs) (subst (λ n. IsLong n z) (counted_long rs) (each_long g (numbered 0 (cells rs)))) result
+    told at rs (each_row g rs) z (each_counted g rs) (subst (λ n. IsLong n n z) (cells_long rs) (each_long g 0 (length (cells rs)) (cells rs) (from_none (length (cells rs))))) result
     (subst (λ ds. Answers (each_row g (numbered 0 ds)) (λ (c : SeenColumn). c.cells) result) (sym q) h)
 
 pub unary_told : (op : Unary) (cs : List Seen) (result : Result SeenColumn OpFault) → Answers (unary_rows op (numbered 0 cs)) (λ (c : SeenColumn). c.cells) result
@@ -103,8 +112,8 @@ pub binary_told : (op : Binary) (cs ds : List Seen) (result : Result SeenColumn 
     → length ds ≡ length cs → (at : At) (x y : Outcome) → Shows x cs → Shows y ds → Tells at (rows_in x) (elementwise_two at op x y) result
 binary_told op cs ds result h same at (rows rs) (rows ss) q r =
     let z : RowsOrFault = each_pair (binary_cell op) (numbered 0 (cells rs)) (numbered 0 (cells ss)) in
-    let long : length (numbered 0 (cells ss)) ≡ length (numbered 0 (cells rs)) = numbered_long 0 (cells ss) ∙ (ap length r ∙ (same ∙ (ap length (sym q) ∙ sym (numbered_long 0 (cells rs))))) in
-    told at rs (each_pair (binary_cell op) rs ss) z (pair_counted (binary_cell op) rs ss) (subst (λ n. IsLong n z) (counted_long rs) (pair_long (binary_cell op) (numbered 0 (cells rs)) (numbered 0 (cells ss)) long)) result
+    let long : length (cells ss) ≡ length (cells rs) = ap length r ∙ (same ∙ ap length (sym q)) in
+    told at rs (each_pair (binary_cell op) rs ss) z (pair_counted (binary_cell op) rs ss) (subst (λ n. IsLong n n z) (cells_long rs) (pair_long (binary_cell op) 0 (length (cells rs)) (cells rs) (cells ss) long (from_none (length (cells rs))))) result
     (subst (λ es. Answers (binary_rows op (numbered 0 (cells rs)) (numbered 0 es)) (λ (c : SeenColumn). c.cells) result) (sym r)
     (subst (λ es. Answers (binary_rows op (numbered 0 es) (numbered 0 ds)) (λ (c : SeenColumn). c.cells) result) (sym q) h))
 binary_told op cs ds result h same at (rows rs) (scalar d) q r = absurd r

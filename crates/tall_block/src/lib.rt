@@ -1,12 +1,17 @@
 //! A block's work: the values of a pass over the rows of one block.
 #![tactic(auto)]
 
+mod block;
 mod columns;
+mod forms;
+mod laws;
 mod nodes;
+mod numbers;
 mod rows;
+mod scans;
 mod values;
 
-pub use columns::{column, known_scalar};
-pub use nodes::{binary_value, filter_value, scalar_left_value, scalar_right_value, unary_value};
-pub use rows::{binary_over, filter_over, scalar_over, unary_over};
-pub use values::{binary_of, filter_of, scalar_of, unary_of};
+pub use block::{BlockValues, block_values};
+pub use columns::column;
+pub use laws::a_block_of_a_pass_can_be_computed;
+pub use numbers::row_numbers;

@@ -1,5 +1,5 @@
 //! Operators over columns of a block's rows.
-ghost use Rattle.std.specs.Prelude.{◌≡◌, false, true, IfOk, IsOk, Ok, length};
+ghost use Rattle.std.specs.Prelude.{◌≡◌, ◌≤◌, false, true, IfOk, IsOk, Ok, length};
 ghost use Rattle.tall_value.specs.declared.class.Class.TheVariants as class;
 ghost use Rattle.tall_value.specs.Cells.{Seen, seen};
 ghost use Rattle.tall_value.specs.ClassTables.{binary_class, unary_class};
@@ -18,10 +18,11 @@ use tall_value::{Binary, Cell, Unary};
 ///
 /// # Errors
 /// `At` with the first row, counted from 0, where the operator has no cell; `Memory` for want of memory alone.
-#[tactic(auto, using(crate::proofs::Operators::unary_told))]
-pub fn unary_over(alloc: Global, op: Unary, a: &Column) -> Result<Column, OpFault>
+#[tactic(auto, using(crate::proofs::Operators::unary_told, crate::proofs::Heights::unary_short))]
+pub(crate) fn unary_over(alloc: Global, op: Unary, a: &Column) -> Result<Column, OpFault>
     requires { IsOk (unary_class op a.now.class) }
     ensures class { IfOk result (λ c. unary_class op a.now.class ≡ Ok c.class) }
+    ensures height { IfOk result (λ c. length c.cells ≤ length a.now.cells) }
     ensures rows { (at : At) (x : Outcome) → Shows x a.now.cells → Tells at (rows_in x) (elementwise_one at op x) result }
 {
     map_unary(alloc, op, a)
@@ -31,8 +32,8 @@ pub fn unary_over(alloc: Global, op: Unary, a: &Column) -> Result<Column, OpFaul
 ///
 /// # Errors
 /// As `unary_over`.
-#[tactic(auto, using(crate::proofs::Operators::right_told, crate::proofs::Operators::left_told))]
-pub fn scalar_over(
+#[tactic(auto, using(crate::proofs::Operators::right_told, crate::proofs::Operators::left_told, crate::proofs::Heights::scalar_short))]
+pub(crate) fn scalar_over(
     alloc: Global,
     op: Binary,
     a: &Column,
@@ -41,6 +42,7 @@ pub fn scalar_over(
 ) -> Result<Column, OpFault>
     requires { IsOk (scalar_class op scalar_left (class_of_cell (seen b.now)) a.now.class) }
     ensures class { IfOk result (λ c. scalar_class op scalar_left (class_of_cell (seen b.now)) a.now.class ≡ Ok c.class) }
+    ensures height { IfOk result (λ c. length c.cells ≤ length a.now.cells) }
     ensures right { scalar_left ≡ false → (at : At) (x : Outcome) → Shows x a.now.cells → Tells at (rows_in x) (elementwise_two at op x (scalar (seen b.now))) result }
     ensures left { scalar_left ≡ true → (at : At) (x : Outcome) → Shows x a.now.cells → Tells at (rows_in x) (elementwise_two at op (scalar (seen b.now)) x) result }
 {
@@ -52,10 +54,16 @@ pub fn scalar_over(
 ///
 /// # Errors
 /// As `unary_over`.
-#[tactic(auto, using(crate::proofs::Operators::binary_told))]
-pub fn binary_over(alloc: Global, op: Binary, a: &Column, b: &Column) -> Result<Column, OpFault>
+#[tactic(auto, using(crate::proofs::Operators::binary_told, crate::proofs::Heights::binary_short))]
+pub(crate) fn binary_over(
+    alloc: Global,
+    op: Binary,
+    a: &Column,
+    b: &Column,
+) -> Result<Column, OpFault>
     requires { IsOk (binary_class op a.now.class false b.now.class false) }
     ensures class { IfOk result (λ c. binary_class op a.now.class false b.now.class false ≡ Ok c.class) }
+    ensures height { IfOk result (λ c. length c.cells ≤ length a.now.cells) }
     ensures rows { length b.now.cells ≡ length a.now.cells → (at : At) (x y : Outcome) → Shows x a.now.cells → Shows y b.now.cells → Tells at (rows_in x) (elementwise_two at op x y) result }
 {
     if a.len() == b.len() {
@@ -67,9 +75,10 @@ pub fn binary_over(alloc: Global, op: Binary, a: &Column, b: &Column) -> Result<
 
 /// The rows of a column where a logical column is true. Columns of unequal lengths, which files that change can give, are cut
 /// to the shorter one. Refused for want of memory alone.
-pub fn filter_over(a: &Column, mask: &Column) -> Result<Column, AllocError>
+pub(crate) fn filter_over(a: &Column, mask: &Column) -> Result<Column, AllocError>
     requires { mask.now.class ≡ class.Logical }
     ensures class { IfOk result (λ c. c.class ≡ a.now.class) }
+    ensures height { IfOk result (λ c. length c.cells ≤ length a.now.cells) }
     ensures rows { IfOk result (λ c. length mask.now.cells ≡ length a.now.cells → (x m : Outcome) → Shows x a.now.cells → Shows m mask.now.cells → Shows (of_rows (kept (rows_in x) (cells_in m))) c.cells) }
 {
     if a.len() == mask.len() {
