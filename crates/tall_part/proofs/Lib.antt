@@ -1,0 +1,9 @@
+pub mod OperationLaws
+pub mod NextCarryLaws
+pub mod BlockLaws
+pub mod JoinLaws
+pub mod FinishLaws
+pub mod GroupFinishLaws
+pub mod AcceptedLaws
+pub mod OutcomeLaws
+pub mod HeightLaws
