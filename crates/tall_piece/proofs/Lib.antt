@@ -1,0 +1,10 @@
+pub mod PassOverLaws
+pub mod CarriedLaws
+pub mod JoinLaws
+pub mod SumsLaws
+pub mod StepLaws
+pub mod MakingLaws
+pub mod HeightLaws
+pub mod GivenLaws
+pub mod AnswerLaws
+pub mod SampleLaws

@@ -1,0 +1,9 @@
+pub mod Carried
+pub mod Wants
+pub mod Joins
+pub mod Passes
+pub mod Worked
+pub mod Given
+pub mod Pieces
+pub mod Right
+pub mod SamplePasses
