@@ -1,0 +1,5 @@
+pub mod Cuts
+pub mod Walks
+pub mod OneFileLemmas
+pub mod Following
+pub mod Endings
