@@ -2,7 +2,7 @@ mod NodeLaws
 pub mod Grown
 pub mod Operands
 mod Variables
-mod RowLaws
+pub mod RowLaws
 mod IndexLaws
 mod FormLaws
 mod GroupLaws

@@ -22,4 +22,4 @@ pub use indexes::index_value;
 pub use laws::{expressions_leave_lower_numbers, numbers_in_turn_are_in_order, values_stay};
 pub use members::member_value;
 pub use operators::{infix_value, prefix_value};
-pub use values::{At, ScriptIndex, ScriptRef, ScriptValue, Variable};
+pub use values::{At, ScriptIndex, ScriptRef, ScriptValue, Variable, add_variable};

@@ -104,7 +104,7 @@ pub(crate) fn lent_again<'a>(v: &MemoryRef<'a>) -> MemoryRef<'a>
 }
 
 /// Adds a variable at the end.
-pub(crate) fn add_variable(
+pub fn add_variable(
     alloc: Global,
     variables: &mut Vec<Variable>,
     name: &str,

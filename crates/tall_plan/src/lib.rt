@@ -6,4 +6,4 @@ mod passes;
 mod plans;
 
 pub use passes::{Pass, Plan};
-pub use plans::plan;
+pub use plans::{greatest_level, needed_nodes, plan};

@@ -14,7 +14,8 @@ use crate::passes::{Pass, Plan, next_store, pass_over};
 use std::alloc::{AllocError, Global};
 use tall_graph::{Graph, NodeId};
 
-fn greatest_level(graph: &Graph, roots: &[NodeId]) -> u64
+/// The greatest level of the roots, 0 for none.
+pub fn greatest_level(graph: &Graph, roots: &[NodeId]) -> u64
     requires { AllBelow (length graph.now) roots.now }
     ensures { result ≡ greatest_level (map (shape_at graph.now) roots.now) }
 {
@@ -23,6 +24,18 @@ fn greatest_level(graph: &Graph, roots: &[NodeId]) -> u64
         greatest = graph.level_of(*n).max(greatest);
     }
     greatest
+}
+
+/// The nodes that the roots depend on, the roots too, by ascending places.
+pub fn needed_nodes(
+    alloc: Global,
+    graph: &Graph,
+    roots: &[NodeId],
+) -> Result<Vec<NodeId>, AllocError>
+    requires { AllBelow (length graph.now) roots.now }
+    ensures { IfOk result (λ n. n.items ≡ needed_of graph.now roots.now) }
+{
+    needed(alloc, graph, roots)
 }
 
 /// The passes of one level.

@@ -98,6 +98,14 @@ impl Datastore {
         self.selected.len() as u32
     }
 
+    /// The name of the selected variable at a place of the selection, from 0.
+    pub fn selected_name(&self, k: u32) -> &str
+        requires { k < length self.now.selected }
+        ensures name { result.now ≡ name_at self.now (get_or self.now.selected k 0) }
+    {
+        self.names[self.selected[k as usize]].as_str()
+    }
+
     /// The class of the selected variable at a place of the selection, from 0.
     pub fn class_at(&self, k: u32) -> Class
         requires { k < length self.now.selected }
