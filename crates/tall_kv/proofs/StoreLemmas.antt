@@ -1,7 +1,7 @@
 -- Pairs in columns.
-use Rattle.std.proofs.Common.{◌≡◌, ℕ, zero, suc, ◌≤◌, ◌<◌, ◌+◌, List, [], ◌∷◌, ◌++◌, length, take, get_or, refl, ap, sym, subst, ◌∙◌, arith}
+use Rattle.std.proofs.Common.{◌≡◌, ℕ, zero, suc, ◌≤◌, ◌<◌, ◌+◌, List, [], ◌∷◌, ◌++◌, length, map, take, get_or, refl, ap, sym, subst, ◌∙◌, arith}
 use Rattle.std.proofs.lemmas.Bool.{and_parts, le-ltb, lt-ltb, ltb-true}
-use Rattle.std.proofs.lemmas.List.{append-nil, append_assoc, length-append, length_push}
+use Rattle.std.proofs.lemmas.List.{append-nil, append_assoc, length-append, length-map, length_push}
 use Rattle.std.specs.Prelude.{Bool, true, false, ◌&&◌, ◌^◌, None, Some, Result, Ok, Err, option_map, slice_get}
 use Rattle.std.proofs.lemmas.Option.{none-some}
 use Rattle.tall_value.specs.declared.class.IntKind.TheVariants.{Int8, Int16, Int32, Int64, Uint8, Uint16, Uint32, Uint64}
@@ -10,7 +10,8 @@ use Rattle.tall_value.specs.declared.class.Kind.TheVariants.{Integer, Logical, D
 use Rattle.tall_value.specs.Cells.{Seen, seen_kind}
 use Rattle.tall_local.specs.Refusals.{Refusal, stop_at, too_many_rows}
 use Rattle.tall_local.proofs.KeyLaws.{same_kinds}
-use Rattle.tall_local.specs.Pairs.{Pair, append_if, appended, has_room, is_key, key_fits, value_fits, is_within_store, judged, misfit, same_class, same_kind, with_pair}
+use Rattle.tall_column.specs.Columns.{SeenColumn}
+use Rattle.tall_local.specs.Pairs.{Pair, append_if, appended, column_of_cells, has_room, pair_key, pair_value, is_key, key_fits, value_fits, is_within_store, judged, misfit, same_class, same_kind, with_pair}
 use Rattle.tall_kv.specs.declared.rows.Rows.{Rows}
 use Rattle.tall_kv.specs.declared.faults.PairFault.{PairFault}
 use Rattle.tall_kv.specs.Faults.{IsFaultOf}
@@ -244,3 +245,28 @@ pub is_line : (r : Rows) (ps : List Pair) (i : ℕ) → IsLong r → rows_pairs 
 is_line r ps i long view h =
     let e : length ps ≡ length r.lines.items = ap length (sym view) ∙ length_of_pairs r.lines.items r.keys.cells r.values.cells long.keys long.values in
     omega (arith, h, e)
+
+-- ---- as columns
+
+pub keys_of_pairs : (ls : List ℕ) (ks vs : List Seen) → length ls ≤ length ks → length ls ≤ length vs → map pair_key (pairs_of ls ks vs) ≡ take (length ls) ks
+keys_of_pairs [] ks vs keys values = refl
+keys_of_pairs (l ∷ ls) [] vs keys values = absurd (omega (arith, keys))
+keys_of_pairs (l ∷ ls) (k ∷ ks) [] keys values = absurd (omega (arith, values))
+keys_of_pairs (l ∷ ls) (k ∷ ks) (v ∷ vs) keys values = ap (λ cs. k ∷ cs) (keys_of_pairs ls ks vs (omega (arith, keys)) (omega (arith, values)))
+
+pub values_of_pairs : (ls : List ℕ) (ks vs : List Seen) → length ls ≤ length ks → length ls ≤ length vs → map pair_value (pairs_of ls ks vs) ≡ take (length ls) vs
+values_of_pairs [] ks vs keys values = refl
+values_of_pairs (l ∷ ls) [] vs keys values = absurd (omega (arith, keys))
+values_of_pairs (l ∷ ls) (k ∷ ks) [] keys values = absurd (omega (arith, values))
+values_of_pairs (l ∷ ls) (k ∷ ks) (v ∷ vs) keys values = ap (λ cs. v ∷ cs) (values_of_pairs ls ks vs (omega (arith, keys)) (omega (arith, values)))
+
+column_height : (cs : List Seen) → length (column_of_cells cs).cells ≡ length cs
+column_height [] = refl
+column_height (c ∷ cs) = refl
+
+pub columns_height : (ps : List Pair) (keys values : SeenColumn) → length ps < 2 ^ 40 → keys ≡ column_of_cells (map pair_key ps) → values ≡ column_of_cells (map pair_value ps)
+    → (length keys.cells < 2 ^ 40) × (length values.cells ≡ length keys.cells)
+columns_height ps keys values few k v =
+    let of_keys : length keys.cells ≡ length ps = ap (λ c. length c.cells) k ∙ column_height (map pair_key ps) ∙ length-map ps pair_key in
+    let of_values : length values.cells ≡ length ps = ap (λ c. length c.cells) v ∙ column_height (map pair_value ps) ∙ length-map ps pair_value in
+    (subst (λ n. n < 2 ^ 40) (sym of_keys) few, of_values ∙ sym of_keys)

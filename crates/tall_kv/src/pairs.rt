@@ -1,6 +1,7 @@
 //! Pairs in the order of their adding.
-ghost use Rattle.std.specs.Prelude.{◌≡◌, ◌<◌, [], IfOk, Some, length, option_map, slice_get};
+ghost use Rattle.std.specs.Prelude.{◌≡◌, ◌<◌, ◌^◌, [], IfOk, Some, length, map, option_map, slice_get};
 ghost use Rattle.tall_value.specs.Cells.{seen};
+ghost use Rattle.tall_local.specs.Pairs.{column_of_cells, pair_key, pair_value};
 ghost use Rattle.tall_kv.specs.ByKey.{groups_of};
 ghost use Rattle.tall_kv.specs.Stores.{Adds, Appends, IsStore, cells_of};
 
@@ -85,6 +86,16 @@ impl Pairs {
     {
         let (key, value, _) = self.rows.pair(i);
         (key, value)
+    }
+
+    /// The keys and the values of all pairs as columns, in order; without a pair they are columns of doubles.
+    pub fn into_columns(self) -> Result<(Column, Column), AllocError>
+        ensures keys { IfOk result (λ c. c.0 ≡ column_of_cells (map pair_key self)) }
+        ensures values { IfOk result (λ c. c.1 ≡ column_of_cells (map pair_value self)) }
+        ensures height { IfOk result (λ c. (length c.0.cells < 2 ^ 40) × (length c.1.cells ≡ length c.0.cells)) }
+    {
+        let alloc = self.alloc;
+        self.rows.into_columns(alloc)
     }
 
     /// The keys in the order of their first adding, each with its values in order. The time is linear in the number of pairs.

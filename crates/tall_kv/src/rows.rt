@@ -1,15 +1,15 @@
 //! Pairs as they are kept: keys, values and lines of their own.
-ghost use Rattle.std.specs.Prelude.{◌≡◌, ◌<◌, ◌≤◌, ◌++◌, ◌∷◌, [], ◌&&◌, ℕ, IfErr, IfNone, OnErr, OnOk, Some, length, option_map, slice_get, take, true};
+ghost use Rattle.std.specs.Prelude.{◌≡◌, ◌<◌, ◌≤◌, ◌++◌, ◌∷◌, [], ◌&&◌, ℕ, IfErr, IfNone, IfOk, OnErr, OnOk, Some, length, map, option_map, slice_get, take, true};
 ghost use Rattle.tall_value.specs.Cells.{seen};
 ghost use Rattle.tall_column.specs.Columns.{class_of_cell};
-ghost use Rattle.tall_local.specs.Pairs.{appended, is_key, judged, misfit, same_class};
+ghost use Rattle.tall_local.specs.Pairs.{appended, column_of_cells, is_key, judged, misfit, pair_key, pair_value, same_class};
 ghost use Rattle.tall_kv.specs.Faults.{IsFaultOf, refusal_of};
 ghost use Rattle.tall_kv.specs.Stores.{AllFit, IsKept, IsLong, IsStore, fits_first, rows_pairs};
 
 use crate::faults::{Misfit, PairFault};
 use std::alloc::{AllocError, Global};
 use tall_column::Column;
-use tall_value::{Cell, Content, Kind};
+use tall_value::{Cell, Class, Content, Kind};
 
 /// A store has fewer pairs.
 pub(crate) const LIMIT: usize = 1 << 40;
@@ -131,6 +131,21 @@ fn add_cells(column: &mut Column, rows: usize, more: Column) -> Result<(), Alloc
     column.concat(&more)
 }
 
+/// The first rows of a column as a column of their own; without a row it is one of doubles.
+fn front(alloc: Global, column: Column, rows: usize) -> Result<Column, AllocError>
+    requires { rows ≤ length column.cells }
+    ensures { IfOk result (λ c. c ≡ column_of_cells (take rows column.cells)) }
+{
+    if rows == 0 {
+        return Ok(Column::new(alloc, Class::Double));
+    }
+    let mut front = column;
+    cut(&mut front, rows)?;
+    // The first cell has the column's class.
+    let _ = front.get(0);
+    Ok(front)
+}
+
 impl Rows {
     /// What a pair does not fit by, if it doesn't.
     pub(crate) fn misfit(&self, key: &Cell<'_>, value: &Cell<'_>) -> Option<Misfit>
@@ -188,6 +203,18 @@ impl Rows {
         }
         let (_, _, line) = later.pair(room);
         Err(Misfit::Number.at(line))
+    }
+
+    /// The keys and the values as columns; without a pair they are doubles.
+    pub(crate) fn into_columns(self, alloc: Global) -> Result<(Column, Column), AllocError>
+        requires { IsLong self }
+        ensures keys { IfOk result (λ c. c.0 ≡ column_of_cells (map pair_key (rows_pairs self))) }
+        ensures values { IfOk result (λ c. c.1 ≡ column_of_cells (map pair_value (rows_pairs self))) }
+    {
+        let rows = self.lines.len();
+        let keys = front(alloc, self.keys, rows)?;
+        let values = front(alloc, self.values, rows)?;
+        Ok((keys, values))
     }
 
     #[tactic(auto, using(crate::proofs::StoreLemmas::same_fronts, crate::proofs::StoreLemmas::of_more))]
