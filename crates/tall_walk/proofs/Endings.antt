@@ -21,9 +21,9 @@ use Rattle.tall_walk.specs.declared.ends.FileOutcome.TheVariants as outcome
 use Rattle.tall_walk.specs.declared.ends.WalkEnd.{WalkEnd}
 use Rattle.tall_walk.specs.declared.ends.WalkEnd.TheVariants.{Whole, Reading, Stopped, Read, TooLarge, Memory}
 use Rattle.tall_walk.specs.Events.{Event}
-use Rattle.tall_walk.specs.OneFile.{IfEnd, OpensEnd, OpensOne, TellsFile, WholeFile}
-use Rattle.tall_walk.specs.Walked.{EndsAs, EndsNext, IsExplained, IsLonger, OpensNext, Walked, WalkedTo}
-use Rattle.tall_walk.proofs.Following.{its_file, meets_fault, stops_in_file}
+use Rattle.tall_walk.specs.OneFile.{IfEnd, OfFile, OpensEnd, OpensOne, TellsFile, WholeFile}
+use Rattle.tall_walk.specs.Walked.{EndsAs, EndsNext, IsExplained, IsLonger, OfFiles, OpensNext, Walked, WalkedTo}
+use Rattle.tall_walk.proofs.Following.{its_file, meets_fault, short_in, stops_in_file}
 
 pub some_rows : (size : ReadSize) → is_size size ≡ true → 0 < rows_of size
 some_rows File e = omega arith
@@ -114,7 +114,7 @@ ends_walk P Q store held file before mid now (Reading g) l a o t = record {
 }
 ends_walk P Q store held file before mid now (Stopped e) l a o t = record { opened = file + 1; within = omega (arith, l); opens = adds_next store.files file before mid now l a o; tells = t }
 ends_walk P Q store held file before mid now (Read k) l a o t = record { opened = file + 1; within = omega (arith, l); opens = adds_next store.files file before mid now l a o; tells = subst (λ n. n < file + 1) (sym t) (omega arith) }
-ends_walk P Q store held file before mid now (TooLarge k) l a o t = record { opened = file + 1; within = omega (arith, l); opens = adds_next store.files file before mid now l a o; tells = subst (λ n. n < file + 1) (sym t) (omega arith) }
+ends_walk P Q store held file before mid now (TooLarge k) l a o t = record { opened = file + 1; within = omega (arith, l); opens = adds_next store.files file before mid now l a o; tells = (subst (λ n. n < file + 1) (sym t.0) (omega arith), t.1) }
 ends_walk P Q store held file before mid now Memory l a (inl o) t = record { opened = file; within = omega (arith, l); opens = adds_none (take file store.files) before mid now a o; tells = tt }
 ends_walk P Q store held file before mid now Memory l a (inr o) t = record { opened = file + 1; within = omega (arith, l); opens = adds_next store.files file before mid now l a o; tells = tt }
 
@@ -137,6 +137,10 @@ few_next file row (outcome.Ended end.TooLarge) r e t = subst (λ x. IfOk x (λ n
 few_next file row (outcome.Ended end.Memory) r e t = subst (λ x. IfOk x (λ n. row + n ≤ 2 ^ 40)) (sym e) tt
 few_next file row (outcome.Stopped x) r e t = subst (λ x. IfOk x (λ n. row + n ≤ 2 ^ 40)) (sym e) tt
 
+large_in : (store : SeenStore) (held : Option Files) (file row : ℕ) → file < length store.files → OfFile store held file row (λ f. ⊥) → OfFiles store held (λ files. ⊥)
+large_in store None file row l t = tt
+large_in store (Some files) file row l t = λ short. t (short_in files store.files file short l)
+
 pub ends_next : {E : Type 0} (P Q : List Event → Type 0) (R : E → List Event → Event → Type 0) (store : SeenStore) (held : Option Files) (file row : ℕ) (o : FileOutcome E) (r : Result ℕ (WalkEnd E)) → EndsAs file o r → file < length store.files
     → ((es : List Event) → P es → TellsFile Q R store held file row es o) → IfErr r (λ x. WalkedTo P store held file row → EndsNext Q R store held file x)
 ends_next P Q R store held file row (outcome.Ended (end.Whole n)) r e l t = subst (λ x. IfErr x (λ y. WalkedTo P store held file row → EndsNext Q R store held file y)) (sym e) tt
@@ -144,7 +148,8 @@ ends_next P Q R store held file row (outcome.Ended (end.Reading g)) r e l t =
     subst (λ x. IfErr x (λ y. WalkedTo P store held file row → EndsNext Q R store held file y)) (sym e)
     (λ w. (meets_fault P Q store held file row g l w t, its_file file row g (t w.events w.taken).own))
 ends_next P Q R store held file row (outcome.Ended end.Failed) r e l t = subst (λ x. IfErr x (λ y. WalkedTo P store held file row → EndsNext Q R store held file y)) (sym e) (λ w. refl)
-ends_next P Q R store held file row (outcome.Ended end.TooLarge) r e l t = subst (λ x. IfErr x (λ y. WalkedTo P store held file row → EndsNext Q R store held file y)) (sym e) (λ w. refl)
+ends_next P Q R store held file row (outcome.Ended end.TooLarge) r e l t =
+    subst (λ x. IfErr x (λ y. WalkedTo P store held file row → EndsNext Q R store held file y)) (sym e) (λ w. (refl, large_in store held file row l (t w.events w.taken)))
 ends_next P Q R store held file row (outcome.Ended end.Memory) r e l t = subst (λ x. IfErr x (λ y. WalkedTo P store held file row → EndsNext Q R store held file y)) (sym e) (λ w. tt)
 ends_next P Q R store held file row (outcome.Stopped s) r e l t =
     subst (λ x. IfErr x (λ y. WalkedTo P store held file row → EndsNext Q R store held file y)) (sym e) (λ w. stops_in_file P (R s) store held file row l w t)

@@ -3,3 +3,4 @@ pub mod Walks
 pub mod OneFileLemmas
 pub mod Following
 pub mod Endings
+pub mod FaultLaws

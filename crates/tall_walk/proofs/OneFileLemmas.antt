@@ -1,10 +1,11 @@
 -- From what was left of a file to a file of the walk.
 use Rattle.std.proofs.Common.{ℕ, ◌≡◌, ◌∙◌, ◌<◌, ◌≤◌, ◌+◌, ◌^◌, inl, inr, List, [], ◌∷◌, ◌++◌, sym, ap, subst, refl, arith, length, map}
-use Rattle.std.specs.Prelude.{◌*◌, ◌-◌, Bool, true, Option, Some, None, IfSome}
+use Rattle.std.specs.Prelude.{◌*◌, ◌-◌, ◌≢◌, Bool, true, Option, Some, None, IfSome, option_map}
 use Rattle.std.specs.Option.{option_or}
 use Rattle.std.proofs.lemmas.List.{append_assoc, append-nil, map-append}
 use Rattle.tall_outside.specs.declared.shelf.Shelf as shelf
-use Rattle.tall_outside.specs.Shelf.{Files}
+use Rattle.tall_outside.specs.Shelf.{Files, file_in}
+use Rattle.tall_cut.specs.Asked.{size_in}
 use Rattle.tall_cut.specs.declared.feed.OpenedFile as opened
 use Rattle.tall_cut.specs.Cuts.{IsEnded, left_by, rows_of}
 use Rattle.tall_cut.specs.Finding.{raw_count, records_of, source_left}
@@ -13,21 +14,22 @@ use Rattle.tall_cut.specs.Rows.{Fields, NoneLeft, TakesMany}
 use Rattle.tall_store.specs.declared.file_end.FileEnd.{FileEnd}
 use Rattle.tall_store.specs.declared.file_end.FileEnd.TheVariants.{Whole, Reading, Failed, TooLarge, Memory}
 use Rattle.tall_store.specs.declared.faults.ReadingFault.{ReadingFault}
-use Rattle.tall_store.specs.Blocks.{Block, first_in_blocks}
+use Rattle.tall_store.specs.Blocks.{Block, first_block_fault, first_in_blocks}
 use Rattle.tall_store.specs.declared.file_rows.FileBlock.{FileBlock}
 use Rattle.tall_store.specs.declared.file_rows.FileRows.{FileRows}
 use Rattle.tall_store.specs.declared.file_rows.FileStep.TheVariants as step
 use Rattle.tall_store.specs.FileSteps.{Steps, file_of, first_row, next_row, rows_left, size_of_block}
-use Rattle.tall_store.specs.FileEnds.{IsAtFront, OpensFile, RefusesFile, too_many, walked_file}
+use Rattle.tall_value.specs.declared.faults.ReadingKind.TheVariants.{NoFile}
+use Rattle.tall_store.specs.FileEnds.{EndLonger, IsAtFront, OpensFile, RefusesFile, fault_at, name_of_file, too_many, walked_file}
 use Rattle.tall_store.specs.ReadingOrder.{first_reading_fault}
 use Rattle.tall_store.specs.Stores.{SeenStore}
-use Rattle.tall_store.specs.Walk.{WalkedFile}
+use Rattle.tall_store.specs.Walk.{WalkedFile, file_faults}
 use Rattle.tall_walk.specs.declared.ends.FileOutcome.{FileOutcome}
 use Rattle.tall_walk.specs.declared.ends.FileOutcome.TheVariants.{Ended, Stopped}
 use Rattle.tall_walk.specs.Events.{Event, IsWalk, a_block, block_of}
-use Rattle.tall_walk.specs.OneFile.{EndBehind, Going, GoesOn, IsOfFile, OfFile, StopsIn, TakesUpTo, TellsFile, TellsLeft, blocks_of, cut_from, first_of}
+use Rattle.tall_walk.specs.OneFile.{EndBehind, FrontEnd, Going, GoesOn, IfEnd, IsOfFile, MeetsNext, OfFile, StopsIn, TakesUpTo, TellsFile, TellsLeft, blocks_of, cut_from, first_of}
 use Rattle.tall_walk.proofs.Cuts.{goes_all, goes_block, goes_count, goes_first, goes_most, goes_next}
-use Rattle.tall_walk.proofs.Walks.{below_limit, first_in_append, limit_first, walk_more}
+use Rattle.tall_walk.proofs.Walks.{below_limit, first_in_append, limit_block, limit_first, walk_more}
 
 -- ---- a block more
 
@@ -133,29 +135,54 @@ whole_told store (Some files) file first n left blocks o c a = λ short. (
 
 -- the row numbered 2^40 comes next
 limit_met : (store : SeenStore) (f : WalkedFile) (file first row size : ℕ) (blocks : List Block) (more : List Fields) → f.faults ≡ [] → blocks_of store f ≡ blocks ++ cut_from size file row more
-    → IsWalk file first first (map a_block blocks) file first row → 0 < size → first ≤ 2 ^ 40 → 2 ^ 40 ≤ row → 2 ^ 40 < row + length more → first_in_blocks store blocks ≡ None
-    → first_of store f ≡ Some (too_many file)
-limit_met store f file first row size blocks more none e w some l beyond over h =
+    → IsWalk file first first (map a_block blocks) file first row → 0 < size → first ≤ 2 ^ 40 → 2 ^ 40 ≤ row → 2 ^ 40 < row + length more
+    → first_of store f ≡ option_or (first_in_blocks store blocks) (Some (too_many file))
+limit_met store f file first row size blocks more none e w some l beyond over =
     ap (λ fs. option_or (first_reading_fault fs) (first_in_blocks store (blocks_of store f))) none
     ∙ ap (first_in_blocks store) e
     ∙ first_in_append store blocks (cut_from size file row more)
-    ∙ ap (λ x. option_or x (first_in_blocks store (cut_from size file row more))) h
-    ∙ limit_first store size file row more some (both row (2 ^ 40) (below_limit store file first first blocks file first row w l h) beyond) over
+    ∙ by (first_in_blocks store blocks) refl
   where
     both : (m n : ℕ) → m ≤ n → n ≤ m → m ≡ n
     both m n a b = omega arith
 
+    by : (o : Option ReadingFault) → o ≡ first_in_blocks store blocks → option_or o (first_in_blocks store (cut_from size file row more)) ≡ option_or o (Some (too_many file))
+    by (Some g) h = refl
+    by None h = limit_first store size file row more some (both row (2 ^ 40) (below_limit store file first first blocks file first row w l (sym h)) beyond) over
+
 most_told : (store : SeenStore) (held : Option Files) (file first row : ℕ) (left : Option (List Fields)) (blocks : List Block) → Opened store held file first left
     → IsWalk file first first (map a_block blocks) file first row → 0 < rows_of store.size → first ≤ 2 ^ 40 → 2 ^ 40 ≤ row
     → IfSome left (λ records. (more : List Fields) × (cut_from (rows_of store.size) file first records ≡ blocks ++ cut_from (rows_of store.size) file row more) × (2 ^ 40 < row + length more))
-    → OfFile store held file first (λ f. (more : List Block) × (blocks_of store f ≡ blocks ++ more) × (first_in_blocks store blocks ≡ None → first_of store f ≡ Some (too_many file)))
+    → OfFile store held file first (λ f. (more : List Block) × (blocks_of store f ≡ blocks ++ more) × (first_of store f ≡ option_or (first_in_blocks store blocks) (Some (too_many file))))
 most_told store None file first row left blocks o w some l beyond rest = tt
 most_told store (Some files) file first row left blocks o w some l beyond rest = λ short.
     let f : WalkedFile = walked_file store files file first in
     let r : (more : List Fields) × (cut_from (rows_of store.size) file first f.records ≡ blocks ++ cut_from (rows_of store.size) file row more) × (2 ^ 40 < row + length more) =
     of_records_left (λ records. (more : List Fields) × (cut_from (rows_of store.size) file first records ≡ blocks ++ cut_from (rows_of store.size) file row more) × (2 ^ 40 < row + length more))
     left f.records (o short).1 rest in
-    (cut_from (rows_of store.size) file row r.0, r.1, λ h. limit_met store f file first row (rows_of store.size) blocks r.0 (o short).0 r.1 w some l beyond r.2 h)
+    (cut_from (rows_of store.size) file row r.0, r.1, limit_met store f file first row (rows_of store.size) blocks r.0 (o short).0 r.1 w some l beyond r.2)
+
+next_most : (store : SeenStore) (held : Option Files) (file first row : ℕ) (left : Option (List Fields)) (blocks : List Block) (g : ReadingFault) → Opened store held file first left
+    → IsWalk file first first (map a_block blocks) file first row → 0 < rows_of store.size → first ≤ 2 ^ 40 → 2 ^ 40 ≤ row
+    → IfSome left (λ records. (more : List Fields) × (cut_from (rows_of store.size) file first records ≡ blocks ++ cut_from (rows_of store.size) file row more) × (2 ^ 40 < row + length more))
+    → OfFile store held file first (MeetsNext store first blocks g)
+next_most store None file first row left blocks g o w some l beyond rest = tt
+next_most store (Some files) file first row left blocks g o w some l beyond rest = λ short.
+    let f : WalkedFile = walked_file store files file first in
+    let r : (more : List Fields) × (cut_from (rows_of store.size) file first f.records ≡ blocks ++ cut_from (rows_of store.size) file row more) × (2 ^ 40 < row + length more) =
+    of_records_left (λ records. (more : List Fields) × (cut_from (rows_of store.size) file first records ≡ blocks ++ cut_from (rows_of store.size) file row more) × (2 ^ 40 < row + length more))
+    left f.records (o short).1 rest in
+    inr (
+      (o short).0,
+      l,
+      λ h.
+          let b : (b : Block) × (rest : List Block) × (cut_from (rows_of store.size) file row r.0 ≡ b ∷ rest) × (first_block_fault store b ≡ None → ⊥) =
+          limit_block store (rows_of store.size) file row r.0 some (both row (2 ^ 40) (below_limit store file first first blocks file first row w l h) beyond) r.2 in
+          (b.0, b.1, r.1 ∙ ap (λ bs. blocks ++ bs) b.2, b.3),
+    )
+  where
+    both : (m n : ℕ) → m ≤ n → n ≤ m → m ≡ n
+    both m n a b = omega arith
 
 stop_told : (store : SeenStore) (held : Option Files) (file first : ℕ) (left : Option (List Fields)) (blocks : List Block) (b : Block) → Opened store held file first left
     → IfSome left (λ records. (more : List Block) × (cut_from (rows_of store.size) file first records ≡ blocks ++ b ∷ more))
@@ -167,27 +194,43 @@ stop_told store (Some files) file first left blocks b o rest = λ short.
     of_records_left (λ records. (more : List Block) × (cut_from (rows_of store.size) file first records ≡ blocks ++ b ∷ more)) left f.records (o short).1 rest in
     ((o short).0, r.0, r.1)
 
+-- a file that one opening may read is not too large
+large_told : (store : SeenStore) (held : Option Files) (file first : ℕ) (left : Option (List Fields)) → Opened store held file first left → IfSome (size_in held (name_of_file store file)) (λ n. 2 ^ 50 < n)
+    → OfFile store held file first (λ f. ⊥)
+large_told store None file first left o l = tt
+large_told store (Some files) file first left o l = λ short. by (file_in files (name_of_file store file)) short (o short).0 l
+  where
+    by : (bytes : Option (List ℕ)) → IfSome bytes (λ bs. length bs ≤ 2 ^ 50) → file_faults store bytes file first ≡ [] → IfSome (option_map length bytes) (λ n. 2 ^ 50 < n) → ⊥
+    by None s f l = none f
+      where
+        none : fault_at NoFile file first ∷ [] ≡ [] → ⊥
+        none e = cc
+    by (Some bs) s f l = omega (arith, s, l)
+
 pub tells_file : {E : Type 0} (P : List Event → Type 0) (Q : E → List Event → Event → Type 0) (store : SeenStore) (held : Option Files) (size file first : ℕ) (before : List Event) (left : Option (List Fields)) (end : FileOutcome E)
-    → size ≡ rows_of store.size → 0 < size → first ≤ 2 ^ 40 → Opened store held file first left → TellsLeft P Q size file first before left end → TellsFile P Q store held file first before end
-tells_file P Q store held size file first before left (Ended (Whole n)) e some l o t = record {
+    → size ≡ rows_of store.size → 0 < size → first ≤ 2 ^ 40 → Opened store held file first left → TellsLeft P Q size file first before left end
+    → IfEnd end (λ x. EndLonger x (size_in held (name_of_file store file))) → TellsFile P Q store held file first before end
+tells_file P Q store held size file first before left (Ended (Whole n)) e some l o t longer = record {
   blocks = t.blocks;
   takes = t.takes;
   few = t.few;
   told = whole_told store held file first n left t.blocks o t.count (subst (λ s. IfSome left (λ records. cut_from s file first records ≡ t.blocks)) e t.all);
 }
-tells_file P Q store held size file first before left (Ended (Reading g)) e some l o t = record {
+tells_file P Q store held size file first before left (Ended (Reading g)) e some l o t longer = record {
   blocks = t.1.blocks;
   row = t.1.row;
   takes = t.1.takes;
   own = inr (inr t.0);
-  told = subst (λ x. OfFile store held file first (λ f. (more : List Block) × (blocks_of store f ≡ t.1.blocks ++ more) × (first_in_blocks store t.1.blocks ≡ None → first_of store f ≡ Some x))) (sym t.0)
+  next = next_most store held file first t.1.row left t.1.blocks g o t.1.takes.walks (subst (λ s. 0 < s) e some) l t.1.beyond
+      (subst (λ s. IfSome left (λ records. (more : List Fields) × (cut_from s file first records ≡ t.1.blocks ++ cut_from s file t.1.row more) × (2 ^ 40 < t.1.row + length more))) e t.1.rest);
+  told = subst (λ x. OfFile store held file first (λ f. (more : List Block) × (blocks_of store f ≡ t.1.blocks ++ more) × (first_of store f ≡ option_or (first_in_blocks store t.1.blocks) (Some x)))) (sym t.0)
       (most_told store held file first t.1.row left t.1.blocks o t.1.takes.walks (subst (λ s. 0 < s) e some) l t.1.beyond
       (subst (λ s. IfSome left (λ records. (more : List Fields) × (cut_from s file first records ≡ t.1.blocks ++ cut_from s file t.1.row more) × (2 ^ 40 < t.1.row + length more))) e t.1.rest));
 }
-tells_file P Q store held size file first before left (Ended Failed) e some l o t = tt
-tells_file P Q store held size file first before left (Ended TooLarge) e some l o t = tt
-tells_file P Q store held size file first before left (Ended Memory) e some l o t = tt
-tells_file P Q store held size file first before left (Stopped x) e some l o t = record {
+tells_file P Q store held size file first before left (Ended Failed) e some l o t longer = tt
+tells_file P Q store held size file first before left (Ended TooLarge) e some l o t longer = large_told store held file first left o (longer refl)
+tells_file P Q store held size file first before left (Ended Memory) e some l o t longer = tt
+tells_file P Q store held size file first before left (Stopped x) e some l o t longer = record {
   blocks = t.blocks;
   row = t.row;
   block = t.block;
@@ -199,30 +242,35 @@ tells_file P Q store held size file first before left (Stopped x) e some l o t =
 
 -- ---- a file that is not read from its first row on
 
+next_front : (store : SeenStore) (held : Option Files) (file first : ℕ) (g : ReadingFault) → OfFile store held file first (λ f. RefusesFile f (Reading g)) → OfFile store held file first (MeetsNext store first [] g)
+next_front store None file first g r = tt
+next_front store (Some files) file first g r = λ short. inl (refl, r short)
+
 front_told : (store : SeenStore) (held : Option Files) (file first : ℕ) (g : ReadingFault) → OfFile store held file first (λ f. RefusesFile f (Reading g))
-    → OfFile store held file first (λ f. (more : List Block) × (blocks_of store f ≡ [] ++ more) × (first_in_blocks store [] ≡ None → first_of store f ≡ Some g))
+    → OfFile store held file first (λ f. (more : List Block) × (blocks_of store f ≡ [] ++ more) × (first_of store f ≡ option_or (first_in_blocks store []) (Some g)))
 front_told store None file first g r = tt
 front_told store (Some files) file first g r = λ short.
     let f : WalkedFile = walked_file store files file first in
-    (blocks_of store f, refl, λ h. ap (λ fs. option_or (first_reading_fault fs) (first_in_blocks store (blocks_of store f))) (r short))
+    (blocks_of store f, refl, ap (λ fs. option_or (first_reading_fault fs) (first_in_blocks store (blocks_of store f))) (r short))
 
 pub refuses_file : {E : Type 0} (P : List Event → Type 0) (Q : E → List Event → Event → Type 0) (store : SeenStore) (held : Option Files) (file first : ℕ) (before : List Event) (end : FileEnd)
-    → IsAtFront file first end → OfFile store held file first (λ f. RefusesFile f end) → P before → TellsFile P Q store held file first before (Ended end)
-refuses_file P Q store held file first before (Whole n) a r p = absurd a
-refuses_file P Q store held file first before (Reading g) a r p = record {
+    → IsAtFront file first end → OfFile store held file first (λ f. RefusesFile f end) → (end ≢ TooLarge) → P before → TellsFile P Q store held file first before (Ended end)
+refuses_file P Q store held file first before (Whole n) a r not_large p = absurd a
+refuses_file P Q store held file first before (Reading g) a r not_large p = record {
   blocks = [];
   row = first;
   takes = takes_first P file first before p;
   own = own a;
+  next = next_front store held file first g r;
   told = front_told store held file first g r;
 }
   where
     own : IsAtFront file first (Reading g) → IsOfFile file first g
     own (inl e) = inl e
     own (inr e) = inr (inl e)
-refuses_file P Q store held file first before Failed a r p = tt
-refuses_file P Q store held file first before TooLarge a r p = tt
-refuses_file P Q store held file first before Memory a r p = tt
+refuses_file P Q store held file first before Failed a r not_large p = tt
+refuses_file P Q store held file first before TooLarge a r not_large p = absurd (not_large refl)
+refuses_file P Q store held file first before Memory a r not_large p = tt
 
 -- ---- the reader's steps
 
@@ -309,3 +357,15 @@ end_few old new Memory told beyond first n t (inl e) z w = absurd (other (sym e.
   where
     other : Memory ≡ Whole n → ⊥
     other e = cc
+
+-- an end before the first row
+pub front_end : (P : FileEnd → Type 0) (end told : FileEnd) → FrontEnd end told → P Memory → (end ≢ TooLarge → P end) → P told
+front_end P end told (inl f) m h = subst P (sym f.0) (h f.1)
+front_end P end told (inr e) m h = subst P (sym e) m
+
+pub front_few : (file row n : ℕ) (end : FileEnd) → IsAtFront file row end → end ≡ Whole n → ⊥
+front_few file row n (Whole m) a e = a
+front_few file row n (Reading g) a e = absurd cc
+front_few file row n Failed a e = absurd cc
+front_few file row n TooLarge a e = absurd cc
+front_few file row n Memory a e = absurd cc

@@ -42,7 +42,7 @@ blocks_map (b ∷ blocks) = ap (λ bs. b ∷ bs) (blocks_map blocks)
 
 -- ---- first faults
 
-or_assoc : {A : Type 0} (a b c : Option A) → option_or a (option_or b c) ≡ option_or (option_or a b) c
+pub or_assoc : {A : Type 0} (a b c : Option A) → option_or a (option_or b c) ≡ option_or (option_or a b) c
 or_assoc None b c = refl
 or_assoc (Some a) b c = refl
 
@@ -53,6 +53,10 @@ first_in_append store (x ∷ xs) ys =
 
 pub or_some : {A : Type 0} (a b : Option A) (g : A) → a ≡ Some g → option_or a b ≡ Some g
 or_some a b g e = ap (λ f. option_or f b) e
+
+pub or_none : {A : Type 0} (a : Option A) → option_or a None ≡ a
+or_none None = refl
+or_none (Some a) = refl
 
 pub none_or : {A : Type 0} (a b : Option A) → option_or a b ≡ None → (a ≡ None) × (b ≡ None)
 none_or None b e = (refl, e)
@@ -83,7 +87,7 @@ limit_at store file row taken fields left e h =
     ∙ h)
 
 -- a block without a fault has no row from 2^40 on
-block_below : (store : SeenStore) (file row : ℕ) (records : List Fields) → row ≤ 2 ^ 40 → first_block_fault store (record { file = file; row = row; records = records }) ≡ None → row + length records ≤ 2 ^ 40
+pub block_below : (store : SeenStore) (file row : ℕ) (records : List Fields) → row ≤ 2 ^ 40 → first_block_fault store (record { file = file; row = row; records = records }) ≡ None → row + length records ≤ 2 ^ 40
 block_below store file row records l h = by_test (ltb (2 ^ 40) (row + length records)) (Decides-ltb (2 ^ 40) (row + length records)) refl
   where
     within : (r n m : ℕ) → m ≡ 2 ^ 40 → m < r + n → r ≤ m → m - r < n
@@ -133,3 +137,37 @@ limit_first store (suc n) file row (fields ∷ more) l e over =
     ∙ or_some (first_block_fault store (record { file = file; row = 2 ^ 40; records = fields ∷ take n more }))
     (first_in_blocks store (numbered_blocks file (2 ^ 40 + length (fields ∷ take n more)) (blocks_up_to (length more) (suc n) (drop n more))))
     (too_many file) (first_beyond store file (2 ^ 40) fields (take n more) refl)
+
+-- it is there, and it has a fault
+pub limit_block : (store : SeenStore) (size file row : ℕ) (more : List Fields) → 0 < size → row ≡ 2 ^ 40 → 2 ^ 40 < row + length more
+    → (b : Block) × (rest : List Block) × (cut_from size file row more ≡ b ∷ rest) × (first_block_fault store b ≡ None → ⊥)
+unfolding blocks_up_to
+limit_block store size file row [] l e over = absurd (none row (2 ^ 40) e over)
+  where
+    none : (r m : ℕ) → r ≡ m → m < r + 0 → ⊥
+    none r m e over = omega arith
+limit_block store zero file row (fields ∷ more) l e over = absurd (omega (arith, l))
+limit_block store (suc n) file row (fields ∷ more) l e over = (
+  record { file = file; row = row; records = fields ∷ take n more },
+  numbered_blocks file (row + length (fields ∷ take n more)) (blocks_up_to (length more) (suc n) (drop n more)),
+  refl,
+  λ h. beyond row (length (take n more)) (2 ^ 40) e (block_below store file row (fields ∷ take n more) (same row (2 ^ 40) e) h),
+)
+  where
+    same : (r m : ℕ) → r ≡ m → r ≤ m
+    same r m e = omega arith
+
+    beyond : (r k m : ℕ) → r ≡ m → r + suc k ≤ m → ⊥
+    beyond r k m e l = omega (arith, e, l)
+
+-- rows only grow
+pub walk_grows : (file first row : ℕ) (es : List Event) (k m n : ℕ) → IsWalk file first row es k m n → row ≤ n
+walk_grows file first row [] k m n w = same row n w.2
+  where
+    same : (r n : ℕ) → r ≡ n → r ≤ n
+    same r n e = omega arith
+walk_grows file first row (a_block b ∷ es) k m n w = grow row (length b.records) n (walk_grows file first (row + length b.records) es k m n w.4)
+  where
+    grow : (r c n : ℕ) → r + c ≤ n → r ≤ n
+    grow r c n l = omega arith
+walk_grows file first row (an_end f records ∷ es) k m n w = walk_grows (file + 1) row row es k m n w.2

@@ -1,14 +1,15 @@
 -- What a taker of blocks is told, one after the other, while the files of a datastore are walked over.
-use Rattle.std.specs.Prelude.{◌≡◌, ◌<◌, ◌^◌, ℕ, ◌+◌, List, [], ◌∷◌, ◌++◌, length, map, Option}
+use Rattle.std.specs.Prelude.{◌≡◌, ◌<◌, ◌^◌, ℕ, ◌+◌, List, [], ◌∷◌, ◌++◌, length, map, Option, Result, Ok, Err}
 use Rattle.std.specs.List.{flat_map}
 use Rattle.tall_outside.specs.Shelf.{Files}
+use Rattle.tall_column.specs.Columns.{SeenColumn}
 use Rattle.tall_cut.specs.declared.cutter.ReadSize.TheVariants.{Rows}
 use Rattle.tall_cut.specs.Cuts.{rows_of}
 use Rattle.tall_cut.specs.Rows.{Fields}
 use Rattle.tall_cut.specs.Finding.{raw_records}
 use Rattle.tall_store.specs.declared.file_rows.FileBlock.{FileBlock}
 use Rattle.tall_store.specs.declared.faults.ReadingFault.{ReadingFault}
-use Rattle.tall_store.specs.Blocks.{Block, first_in_blocks, in_blocks, walked_blocks}
+use Rattle.tall_store.specs.Blocks.{Block, block_tables, first_in_blocks, in_blocks, walked_blocks}
 use Rattle.tall_store.specs.Stores.{SeenStore}
 use Rattle.tall_store.specs.Walk.{WalkedFile, walk, walk_from}
 
@@ -30,6 +31,21 @@ blocks_in (an_end file n ∷ es) = blocks_in es
 -- the first reading fault in blocks that came
 abbrev pub first_in : SeenStore → List Event → Option ReadingFault
 first_in store es = first_in_blocks store (blocks_in es)
+
+-- ---- tables
+
+-- blocks as tables, or with the first reading fault of each
+abbrev pub Tables : Type 0
+Tables = List (Result (List (List ℕ × SeenColumn)) ReadingFault)
+
+abbrev pub up_to_fault : Tables → Tables
+up_to_fault [] = []
+up_to_fault (Ok t ∷ ts) = Ok t ∷ up_to_fault ts
+up_to_fault (Err g ∷ ts) = Err g ∷ []
+
+-- up to the first fault they are those of all blocks of a datastore
+abbrev pub AreTables : SeenStore → Files → Tables → Type 0
+AreTables store files ts = up_to_fault (block_tables store files) ≡ up_to_fault ts
 
 -- ---- places
 

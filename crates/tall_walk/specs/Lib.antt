@@ -1,3 +1,4 @@
 pub mod Events
 pub mod OneFile
 pub mod Walked
+pub mod Placed

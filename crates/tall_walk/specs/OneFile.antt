@@ -1,5 +1,5 @@
 -- What a walk over one file of a datastore says.
-use Rattle.std.specs.Prelude.{Bool, true, ◌≡◌, ◌<◌, ◌≤◌, ◌^◌, ◌⊎◌, ℕ, ◌+◌, List, [], ◌∷◌, ◌++◌, length, map, IfSome, Option, None, Some, ⊤}
+use Rattle.std.specs.Prelude.{Bool, true, ◌≡◌, ◌≢◌, ◌<◌, ◌≤◌, ◌^◌, ◌⊎◌, ℕ, ◌+◌, List, [], ◌∷◌, ◌++◌, length, map, IfSome, Option, None, Some, ⊤}
 use Rattle.std.specs.Option.{option_or}
 use Rattle.tall_outside.specs.OpenedNames.{Adds, OpensOnce}
 use Rattle.tall_outside.specs.Shelf.{Files}
@@ -9,7 +9,7 @@ use Rattle.tall_value.specs.declared.faults.ReadingKind.TheVariants.{NoFile, Hea
 use Rattle.tall_store.specs.declared.faults.ReadingFault.{ReadingFault}
 use Rattle.tall_store.specs.declared.file_end.FileEnd.{FileEnd}
 use Rattle.tall_store.specs.declared.file_end.FileEnd.TheVariants.{Whole, Reading, Failed, TooLarge, Memory}
-use Rattle.tall_store.specs.Blocks.{Block, first_in_blocks, in_blocks, numbered_blocks, walked_blocks}
+use Rattle.tall_store.specs.Blocks.{Block, first_block_fault, first_in_blocks, in_blocks, numbered_blocks, walked_blocks}
 use Rattle.tall_store.specs.FileEnds.{IsShort, fault_at, name_of_file, too_many, walked_file}
 use Rattle.tall_store.specs.ReadingOrder.{first_reading_fault}
 use Rattle.tall_store.specs.Stores.{SeenStore}
@@ -99,12 +99,22 @@ pub record WholeFile (P : List Event → Type 0) (store : SeenStore) (held : Opt
   pub few : first + n ≤ 2 ^ 40
   pub told : OfFile store held file first (λ f. (f.faults ≡ []) × (n ≡ length f.records) × (blocks_of store f ≡ blocks))
 
+-- the next block behind those that were taken has a fault
+abbrev pub MeetsBlock : SeenStore → (blocks : List Block) → WalkedFile → Type 0
+MeetsBlock store blocks f = (b : Block) × (more : List Block) × (blocks_of store f ≡ blocks ++ b ∷ more) × (first_block_fault store b ≡ None → ⊥)
+
+-- what of a file stands behind the blocks that were taken: its own fault, before any of its blocks, or a block with a fault
+abbrev pub MeetsNext : SeenStore → (first : ℕ) → (blocks : List Block) → ReadingFault → WalkedFile → Type 0
+MeetsNext store first blocks g f =
+    ((blocks ≡ []) × (f.faults ≡ g ∷ [])) ⊎ ((f.faults ≡ []) × (first ≤ 2 ^ 40) × (first_in_blocks store blocks ≡ None → MeetsBlock store blocks f))
+
 pub record FaultOfFile (P : List Event → Type 0) (store : SeenStore) (held : Option Files) (file first : ℕ) (before : List Event) (g : ReadingFault) : Type 0 where
   pub blocks : List Block
   pub row : ℕ
   pub takes : TakesUpTo P file first before blocks row
   pub own : IsOfFile file first g
-  pub told : OfFile store held file first (λ f. (more : List Block) × (blocks_of store f ≡ blocks ++ more) × (first_in_blocks store blocks ≡ None → first_of store f ≡ Some g))
+  pub next : OfFile store held file first (MeetsNext store first blocks g)
+  pub told : OfFile store held file first (λ f. (more : List Block) × (blocks_of store f ≡ blocks ++ more) × (first_of store f ≡ option_or (first_in_blocks store blocks) (Some g)))
 
 pub record StopsInFile (P : List Event → Event → Type 0) (store : SeenStore) (held : Option Files) (file first : ℕ) (before : List Event) : Type 0 where
   pub blocks : List Block
@@ -115,12 +125,12 @@ pub record StopsInFile (P : List Event → Event → Type 0) (store : SeenStore)
   pub next : IsWalk file first row (a_block block ∷ []) file first (row + length block.records)
   pub told : OfFile store held file first (λ f. (f.faults ≡ []) × (more : List Block) × (blocks_of store f ≡ blocks ++ block ∷ more))
 
--- what an outcome says of a file from the row on that comes next
+-- what an outcome says of a file from the row on that comes next. A file that one opening may read is never too large
 abbrev pub TellsFile : {E : Type 0} → (List Event → Type 0) → (E → List Event → Event → Type 0) → SeenStore → Option Files → (file first : ℕ) → List Event → FileOutcome E → Type 0
 TellsFile P Q store held file first before (Ended (Whole n)) = WholeFile P store held file first n before
 TellsFile P Q store held file first before (Ended (Reading g)) = FaultOfFile P store held file first before g
 TellsFile P Q store held file first before (Ended Failed) = ⊤
-TellsFile P Q store held file first before (Ended TooLarge) = ⊤
+TellsFile P Q store held file first before (Ended TooLarge) = OfFile store held file first (λ f. ⊥)
 TellsFile P Q store held file first before (Ended Memory) = ⊤
 TellsFile P Q store held file first before (Stopped e) = StopsInFile (Q e) store held file first before
 
@@ -134,6 +144,10 @@ IfEnd (Stopped e) P = ⊤
 -- the end of a reading, where the row that comes next is 2^40 or above, or not
 abbrev pub EndBehind : FileEnd → Bool → FileEnd → Type 0
 EndBehind end beyond result = ((result ≡ end) × ((g : ReadingFault) → end ≡ Reading g → beyond ≡ true)) ⊎ (result ≡ Memory)
+
+-- an end before the first row; a header that is longer than one opening may be is held by no memory
+abbrev pub FrontEnd : FileEnd → FileEnd → Type 0
+FrontEnd end result = ((result ≡ end) × (end ≢ TooLarge)) ⊎ (result ≡ Memory)
 
 -- ---- openings
 

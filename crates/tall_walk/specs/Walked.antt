@@ -1,13 +1,14 @@
 -- What a walk over the files of a datastore says: docs/LANGUAGE.md, "Datastores" and "Reading faults".
-use Rattle.std.specs.Prelude.{Result, Ok, Err, ◌+◌, ◌≡◌, ◌<◌, ◌≤◌, ◌^◌, ℕ, List, [], ◌∷◌, ◌++◌, length, take, drop, IfSome, Option, None, Some, ⊤}
+use Rattle.std.specs.Prelude.{Result, Ok, Err, ◌+◌, ◌≡◌, ◌<◌, ◌≤◌, ◌^◌, ℕ, List, [], ◌∷◌, ◌++◌, length, map, take, drop, IfSome, Option, None, Some, ⊤}
 use Rattle.std.specs.List.{flat_map}
+use Rattle.std.specs.Option.{option_or}
 use Rattle.tall_outside.specs.Count.{Rose}
 use Rattle.tall_outside.specs.OpenedNames.{Adds, OpensOnce}
 use Rattle.tall_outside.specs.Shelf.{Files, file_in}
 use Rattle.tall_outside.specs.ShelfCounts.{Counts}
 use Rattle.tall_value.specs.declared.faults.ReadingKind.TheVariants.{NoFile}
 use Rattle.tall_store.specs.declared.faults.ReadingFault.{ReadingFault}
-use Rattle.tall_store.specs.Blocks.{all_blocks, first_met_from, in_blocks, walked_blocks}
+use Rattle.tall_store.specs.Blocks.{all_blocks, block_table, block_tables, first_met_from, first_refused, in_blocks, walked_blocks, walked_tables}
 use Rattle.tall_store.specs.FileEnds.{IsShort, name_of_file}
 use Rattle.tall_store.specs.Stored.{file_faults_from, first_fault}
 use Rattle.tall_store.specs.Stores.{SeenStore}
@@ -17,7 +18,7 @@ use Rattle.tall_walk.specs.declared.ends.FileOutcome.{FileOutcome}
 use Rattle.tall_walk.specs.declared.ends.FileOutcome.TheVariants as outcome
 use Rattle.tall_walk.specs.declared.ends.WalkEnd.{WalkEnd}
 use Rattle.tall_walk.specs.declared.ends.WalkEnd.TheVariants.{Whole, Reading, Stopped, Read, TooLarge, Memory}
-use Rattle.tall_walk.specs.Events.{Event, IsWalk, all_events, blocks_in, cut_of, events_from, first_in}
+use Rattle.tall_walk.specs.Events.{AreTables, Event, IsWalk, Tables, all_events, blocks_in, cut_of, events_from, first_in}
 use Rattle.tall_walk.specs.OneFile.{IsOfFile}
 
 -- each file may be read whole by one opening
@@ -36,7 +37,9 @@ pub record GoesFrom (store : SeenStore) (files : Files) (file row : ℕ) (so_far
   pub events : all_events store files ≡ so_far ++ events_from store files file row (drop file store.files)
   pub blocks : all_blocks store files ≡ blocks_in so_far ++ flat_map (walked_blocks (in_blocks store.size)) (walk_from store files file row (drop file store.files))
   pub own : file_faults_from store files 0 1 store.files ≡ file_faults_from store files file row (drop file store.files)
-  pub first : first_in store so_far ≡ None → first_fault store files ≡ first_met_from (cut_of store) store files file row (drop file store.files)
+  pub first : first_fault store files ≡ option_or (first_in store so_far) (first_met_from (cut_of store) store files file row (drop file store.files))
+  pub tables : block_tables store files ≡ map (block_table store) (blocks_in so_far) ++ flat_map (walked_tables store) (walk_from store files file row (drop file store.files))
+  pub refused : first_refused (block_tables store files) ≡ first_fault store files
 
 -- the files below a place were walked over
 pub record WalkedTo (P : List Event → Type 0) (store : SeenStore) (held : Option Files) (file row : ℕ) : Type 0 where
@@ -48,14 +51,15 @@ pub record WalkedTo (P : List Event → Type 0) (store : SeenStore) (held : Opti
 -- ---- ends
 
 -- all files were walked over: where the shelf tells, all that comes of them was taken, no file has a fault of its own, and
--- the datastore has no reading fault but in a block
+-- the first fault of the datastore is that of the first block with one
 pub record WalksAll (P : List Event → Type 0) (store : SeenStore) (held : Option Files) : Type 0 where
   pub events : List Event
   pub row : ℕ
   pub taken : P events
   pub walks : IsWalk 0 1 1 events (length store.files) row row
   pub few : row ≤ 2 ^ 40
-  pub told : OfFiles store held (λ files. (events ≡ all_events store files) × (blocks_in events ≡ all_blocks store files) × (file_faults_from store files 0 1 store.files ≡ []) × (first_in store events ≡ None → first_fault store files ≡ None))
+  pub told : OfFiles store held (λ files. (events ≡ all_events store files) × (blocks_in events ≡ all_blocks store files) × (file_faults_from store files 0 1 store.files ≡ []) × (first_fault store files ≡ first_in store events))
+  pub tables : OfFiles store held (λ files. AreTables store files (map (block_table store) (blocks_in events)))
 
 -- a fault of a file itself: where the shelf tells, all that comes before it was taken, and it is the first of the datastore
 -- but for faults in what was taken
@@ -66,10 +70,11 @@ pub record MeetsFault (P : List Event → Type 0) (store : SeenStore) (held : Op
   pub taken : P events
   pub walks : IsWalk 0 1 1 events g.file first row
   pub own : IsOfFile g.file first g
-  pub told : OfFiles store held (λ files. (more : List Event) × (all_events store files ≡ events ++ more) × (first_in store events ≡ None → first_fault store files ≡ Some g))
+  pub told : OfFiles store held (λ files. (more : List Event) × (all_events store files ≡ events ++ more) × (first_fault store files ≡ option_or (first_in store events) (Some g)))
+  pub tables : OfFiles store held (λ files. AreTables store files (map (block_table store) (blocks_in events) ++ Err g ∷ []))
 
--- the taker stopped: where the shelf tells, all that comes before was taken, and a fault of the block at which it stopped is
--- the first of the datastore but for faults in what was taken
+-- the taker stopped: where the shelf tells, all that comes before was taken, and the first fault in this and in the block at
+-- which it stopped, if there is one, is the first of the datastore
 pub record StopsAt (P : List Event → Event → Type 0) (store : SeenStore) (held : Option Files) (opened : ℕ) : Type 0 where
   pub events : List Event
   pub event : Event
@@ -81,7 +86,8 @@ pub record StopsAt (P : List Event → Event → Type 0) (store : SeenStore) (he
   pub next : (k m n : ℕ) × IsWalk file first row (event ∷ []) k m n
   pub below : file < opened
   pub told : OfFiles store held (λ files. (more : List Event) × (all_events store files ≡ events ++ event ∷ more)
-      × (first_in store events ≡ None → (g : ReadingFault) → first_in store (event ∷ []) ≡ Some g → first_fault store files ≡ Some g))
+      × ((g : ReadingFault) → first_in store (events ++ event ∷ []) ≡ Some g → first_fault store files ≡ Some g))
+  pub tables : OfFiles store held (λ files. (rest : Tables) × AreTables store files (map (block_table store) (blocks_in (events ++ event ∷ [])) ++ rest))
 
 -- what an end says, where so many files were opened
 abbrev pub TellsEnd : {E : Type 0} → (List Event → Type 0) → (E → List Event → Event → Type 0) → SeenStore → Option Files → (opened : ℕ) → WalkEnd E → Type 0
@@ -89,7 +95,7 @@ TellsEnd P Q store held opened Whole = WalksAll P store held × (opened ≡ leng
 TellsEnd P Q store held opened (Reading g) = MeetsFault P store held g × (g.file < opened)
 TellsEnd P Q store held opened (Stopped e) = StopsAt (Q e) store held opened
 TellsEnd P Q store held opened (Read file) = file < opened
-TellsEnd P Q store held opened (TooLarge file) = file < opened
+TellsEnd P Q store held opened (TooLarge file) = (file < opened) × OfFiles store held (λ files. ⊥)
 TellsEnd P Q store held opened Memory = ⊤
 
 -- the first files of the list were opened, each once and in order, and no other; the one that the end names among them
@@ -134,7 +140,7 @@ EndsNext P Q store held next Whole = ⊥
 EndsNext P Q store held next (Reading g) = MeetsFault P store held g × (g.file ≡ next)
 EndsNext P Q store held next (Stopped e) = StopsAt (Q e) store held (next + 1)
 EndsNext P Q store held next (Read file) = file ≡ next
-EndsNext P Q store held next (TooLarge file) = file ≡ next
+EndsNext P Q store held next (TooLarge file) = (file ≡ next) × OfFiles store held (λ files. ⊥)
 EndsNext P Q store held next Memory = ⊤
 
 -- the file was opened once; for want of memory it may not have been opened

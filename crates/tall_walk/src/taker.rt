@@ -9,7 +9,7 @@ use tall_store::FileBlock;
 /// Takes the blocks of a datastore's files, one after the other, and the end of each file.
 ///
 /// What it is told are events, in order. It is said once what it means that a taker has taken a list of events, and that it
-/// stopped at one.
+/// stopped at one. A call may rely on what was taken before.
 pub trait TakesBlocks {
     /// Why it stopped.
     type Stop: Drop;
@@ -32,6 +32,7 @@ pub trait TakesBlocks {
         requires first { 1 ≤ block.row }
         requires last { block.row < 2 ^ 40 }
         requires some { 0 < raw_count block.raw }
+        requires taken { (before : List Event) × has_taken self.old before }
         ensures took { IfOk result (λ _. (before : List Event) → has_taken self.old before → has_taken self.new (before ++ a_block (block_of block) ∷ [])) }
         ensures stopped { IfErr result (λ e. (before : List Event) → has_taken self.old before → has_stopped self.new e before (a_block (block_of block))) }
         ensures files { files self.new ≡ files self.old };
@@ -42,6 +43,7 @@ pub trait TakesBlocks {
     /// Its own; then no event follows.
     fn end_file(&mut self, file: u32, records: u64) -> Result<(), Self::Stop>
         requires file { file < files self.old }
+        requires taken { (before : List Event) × has_taken self.old before }
         ensures took { IfOk result (λ _. (before : List Event) → has_taken self.old before → has_taken self.new (before ++ an_end file records ∷ [])) }
         ensures stopped { IfErr result (λ e. (before : List Event) → has_taken self.old before → has_stopped self.new e before (an_end file records)) }
         ensures files { files self.new ≡ files self.old };

@@ -7,8 +7,9 @@ ghost use Rattle.tall_cut.specs.Finding.{raw_count};
 ghost use Rattle.tall_store.specs.Causes.{opening_counts};
 ghost use Rattle.tall_store.specs.FileEnds.{EndExplained, EndLonger, IsReadWhole, name_of_file};
 ghost use Rattle.tall_store.specs.FileSteps.{file_of, first_row, next_row, rows_left, rows_shelf, size_of_block};
+ghost use Rattle.tall_store.specs.Stores.{IsStore};
 ghost use Rattle.tall_walk.specs.Events.{Event, a_block, block_of};
-ghost use Rattle.tall_walk.specs.OneFile.{EndBehind, IfEnd, OpensOne, TellsFile, TellsLeft, WholeFile};
+ghost use Rattle.tall_walk.specs.OneFile.{EndBehind, FrontEnd, IfEnd, OpensOne, TellsFile, TellsLeft, WholeFile};
 ghost use Rattle.tall_walk.specs.Walked.{EndsAs, EndsNext, IsExplained, IsLonger, OpensNext, Walked, WalkedTo};
 
 use crate::ends::{FileOutcome, WalkEnd};
@@ -42,6 +43,7 @@ fn take_block<'s, S: Shelf, K: OpenedFile, T: TakesBlocks>(
     requires first { 1 ≤ block.row }
     requires last { block.row < 2 ^ 40 }
     requires some { 0 < raw_count block.raw }
+    requires taken { (before : List Event) × T.has_taken taker.old before }
     ensures took { IfOk result (λ _. (before : List Event) → T.has_taken taker.old before → T.has_taken taker.new (before ++ a_block (block_of block) ∷ [])) }
     ensures stopped { IfErr result (λ e. (before : List Event) → T.has_taken taker.old before → T.has_stopped taker.new e before (a_block (block_of block))) }
     ensures files { T.files taker.new ≡ T.files taker.old }
@@ -71,6 +73,16 @@ fn end_behind(end: FileEnd, beyond: bool) -> FileEnd
     }
 }
 
+// An end before the first row. A header of more bytes than one opening may give is held by no memory.
+fn front_end(end: FileEnd) -> FileEnd
+    ensures { FrontEnd end result }
+{
+    match end {
+        FileEnd::TooLarge => FileEnd::Memory,
+        other => other,
+    }
+}
+
 // Hands all that is left of a file to the taker.
 fn walk_left<'s, S: Shelf, K: OpenedFile, T: TakesBlocks>(
     rows: &mut FileRows<'s, S, K>,
@@ -82,6 +94,7 @@ fn walk_left<'s, S: Shelf, K: OpenedFile, T: TakesBlocks>(
     requires row { row ≡ first_row rows.old }
     requires first { 1 ≤ row }
     requires file { file_of rows.old < T.files taker.old }
+    requires taken { (before : List Event) × T.has_taken taker.old before }
     ensures tells { (before : List Event) → T.has_taken taker.old before → TellsLeft (T.has_taken taker.new) (T.has_stopped taker.new) (size_of_block rows.old) (file_of rows.old) row before (rows_left rows.old) result }
     ensures files { T.files taker.new ≡ T.files taker.old }
     ensures explained { IfEnd result (λ end. EndExplained end (opening_counts K.OpenedFile) (shelf_counts S.Shelf (rows_shelf rows.new))) }
@@ -118,6 +131,7 @@ fn walk_lent<'s, S: Shelf, K: OpenedFile, T: TakesBlocks>(
     requires last { row ≤ 2 ^ 40 }
     requires size { 0 < rows_of store.now.size }
     requires asks { Asks S.Shelf K.OpenedFile lent.shelf.ghost_name lent.shelf.now (name_of_file store.now file) (2 ^ 50) }
+    requires taken { (before : List Event) × T.has_taken taker.old before }
     ensures returns { (Some result.shelf.ghost_name ≡ K.lender) × (S.held result.shelf.now ≡ K.held) }
     ensures tells { (before : List Event) → T.has_taken taker.old before → TellsFile (T.has_taken taker.new) (T.has_stopped taker.new) store.now K.held file row before outcome.new }
     ensures files { T.files taker.new ≡ T.files taker.old }
@@ -134,7 +148,7 @@ fn walk_lent<'s, S: Shelf, K: OpenedFile, T: TakesBlocks>(
             rows.into_lent()
         }
         Err(refused) => {
-            *outcome = FileOutcome::Ended(refused.end);
+            *outcome = FileOutcome::Ended(front_end(refused.end));
             refused.lent
         }
     }
@@ -153,6 +167,7 @@ fn walk_file<S: Shelf, T: TakesBlocks>(
     requires first { 1 ≤ row }
     requires last { row ≤ 2 ^ 40 }
     requires size { 0 < rows_of store.now.size }
+    requires taken { (before : List Event) × T.has_taken taker.old before }
     ensures tells { (before : List Event) → T.has_taken taker.old before → TellsFile (T.has_taken taker.new) (T.has_stopped taker.new) store.now (S.held shelf.old) file row before result }
     ensures files { T.files taker.new ≡ T.files taker.old }
     ensures held { S.held shelf.new ≡ S.held shelf.old }
@@ -196,6 +211,7 @@ fn walk_whole<S: Shelf, T: TakesBlocks>(
     requires first { 1 ≤ row }
     requires last { row ≤ 2 ^ 40 }
     requires size { 0 < rows_of store.now.size }
+    requires taken { (before : List Event) × T.has_taken taker.old before }
     ensures goes { IfOk result (λ n. (before : List Event) → T.has_taken taker.old before → WholeFile (T.has_taken taker.new) store.now (S.held shelf.old) file row n before) }
     ensures few { IfOk result (λ n. row + n ≤ 2 ^ 40) }
     ensures ends { IfErr result (λ end. WalkedTo (T.has_taken taker.old) store.now (S.held shelf.old) file row → EndsNext (T.has_taken taker.new) (T.has_stopped taker.new) store.now (S.held shelf.old) file end) }
@@ -223,6 +239,7 @@ fn walk_next<S: Shelf, T: TakesBlocks>(
     requires first { 1 ≤ row }
     requires last { row ≤ 2 ^ 40 }
     requires size { 0 < rows_of store.now.size }
+    requires taken { (before : List Event) × T.has_taken taker.old before }
     ensures goes { IfOk result (λ next. WalkedTo (T.has_taken taker.old) store.now (S.held shelf.old) file row → WalkedTo (T.has_taken taker.new) store.now (S.held shelf.old) (file + 1) next) }
     ensures next { IfOk result (λ next. (row ≤ next) × (next ≤ 2 ^ 40)) }
     ensures ends { IfErr result (λ end. WalkedTo (T.has_taken taker.old) store.now (S.held shelf.old) file row → EndsNext (T.has_taken taker.new) (T.has_stopped taker.new) store.now (S.held shelf.old) file end) }
@@ -247,7 +264,7 @@ fn walk_next<S: Shelf, T: TakesBlocks>(
 ///
 /// It ends at the first file that isn't there, that has another header than the first or that has the row numbered 2^40;
 /// where the taker stops; or where the shelf fails or memory is wanting. Where no block that was taken has a reading fault, the
-/// fault of a file is the first of the datastore.
+/// fault of a file is the first of the datastore; else that of the first such block is.
 pub fn walk_files<S: Shelf, T: TakesBlocks>(
     shelf: &mut S,
     store: &Datastore,
@@ -261,6 +278,7 @@ pub fn walk_files<S: Shelf, T: TakesBlocks>(
     ensures later { IsLater (shelf_counts S.Shelf shelf.old) (shelf_counts S.Shelf shelf.new) }
     ensures explained { IsExplained result (shelf_counts S.Shelf shelf.old) (shelf_counts S.Shelf shelf.new) }
     ensures longer { IsLonger store.now (S.held shelf.old) result }
+    ensures store { IsStore store.now }
 {
     let mut row = 1u64;
     for file in 0..store.file_count() {
