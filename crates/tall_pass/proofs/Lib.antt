@@ -1,0 +1,15 @@
+pub mod JoiningLaws
+pub mod TakerLaws
+pub mod FaultLaws
+pub mod WalkLaws
+pub mod WorkLaws
+pub mod WayLaws
+pub mod OverLaws
+pub mod BlockLaws
+pub mod EndingLaws
+pub mod EndingListLaws
+pub mod PuttingLaws
+pub mod FinishedLaws
+pub mod ToldLaws
+pub mod AnswerLaws
+pub mod CoverLaws

@@ -1,0 +1,11 @@
+pub mod Counts
+pub mod PassPlans
+pub mod Fitting
+pub mod Answered
+pub mod Told
+pub mod Taken
+pub mod Walking
+pub mod Takers
+pub mod Work
+pub mod Finished
+pub mod Endings
