@@ -1,0 +1,9 @@
+pub mod Candidates
+pub mod Becoming
+pub mod Progress
+pub mod Told
+pub mod Going
+pub mod Rests
+pub mod Smalls
+pub mod Gathered
+pub mod RootLists
