@@ -1,6 +1,6 @@
 -- Arguments one after another.
-use Rattle.std.proofs.Common.{◌≡◌, refl, sym, subst, ap, ◌∙◌, ℕ, ◌+◌, List, [], ◌∷◌, ◌++◌, drop, map}
-use Rattle.std.specs.Prelude.{Bool, true, false, Option, None, Some, option_map, option_and_then}
+use Rattle.std.proofs.Common.{◌≡◌, refl, sym, subst, ap, ◌∙◌, List, [], ◌∷◌, ◌++◌, map}
+use Rattle.std.specs.Prelude.{Bool, true, false, Option, None, Some, option_map}
 use Rattle.std.specs.Option.{is_some}
 use Rattle.std.proofs.lemmas.List.{append_assoc}
 use Rattle.tall_local.specs.Lists.{all_of, in_front_of}

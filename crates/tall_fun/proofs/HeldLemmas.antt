@@ -1,10 +1,10 @@
 -- Values in memory among the values of a function, and what is done with them.
-use Rattle.std.proofs.Common.{◌≡◌, refl, sym, subst, ap, ◌∙◌, ℕ, suc, List, [], ◌∷◌, map, length}
-use Rattle.std.specs.Prelude.{Bool, true, false, if◌then◌else◌, Option, None, Some, option_map, option_and_then, Result, Ok, Err}
+use Rattle.std.proofs.Common.{◌≡◌, refl, sym, subst, ap, ◌∙◌, suc, List, [], ◌∷◌, length}
+use Rattle.std.specs.Prelude.{true, false, if◌then◌else◌, Option, None, Some, option_map, Result, Err}
 use Rattle.std.specs.Option.{is_some, option_copied}
 use Rattle.std.specs.Borrow.{Bor}
 use Rattle.tall_grammar.specs.declared.expressions.Infix.{Infix}
-use Rattle.tall_local.specs.Arguments.{Argument, given, colon, function, Index, rows_at, all_variables_at, index_of, value_given}
+use Rattle.tall_local.specs.Arguments.{Argument, given, colon, function, rows_at, all_variables_at, index_of, value_given}
 use Rattle.tall_local.specs.Lists.{all_of, in_front_of}
 use Rattle.tall_local.specs.Locals.{Held, value, store, iterator, no_value, memory_of, memories_of, with_memory, held, held_binary, held_values, held_function, held_index, argument_by}
 use Rattle.tall_local.specs.Applications.{application, takes}
@@ -19,7 +19,7 @@ use Rattle.tall_memory.specs.declared.faults.MemoryFault.TheVariants as fault
 use Rattle.tall_memory.specs.declared.values.MemoryValue.{MemoryValue}
 use Rattle.tall_memory.specs.Values.{Gives}
 use Rattle.tall_fun.specs.declared.values.LocalValue.{LocalValue}
-use Rattle.tall_fun.specs.Values.{GivesHeld, held_seen, memory_given, is_one_colon, only_value, value_before_colon}
+use Rattle.tall_fun.specs.Values.{GivesHeld, held_seen, memory_given, only_value, value_before_colon}
 use Rattle.tall_fun.proofs.ValueLemmas.{some_is}
 
 pub shown_copied : (o : Option (Bor LocalValue)) → option_map (λ v. held_seen v.now) o ≡ option_map held_seen (option_copied o)

@@ -3,3 +3,7 @@ pub mod NameLemmas
 pub mod ArgumentLemmas
 pub mod HeldLemmas
 pub mod ScopeLaws
+pub mod FrameLemmas
+pub mod LoopLemmas
+pub mod RunLemmas
+pub mod CallLemmas

@@ -1,17 +1,17 @@
 -- The laws of the senses of a scope, and what its calls do.
 use Rattle.std.proofs.Common.{◌≡◌, refl, sym, subst, ap, ◌∙◌, ℕ, ◌+◌, ◌≤◌, List, length}
-use Rattle.std.specs.Prelude.{Bool, true, false, nat_lt, if◌then◌else◌, slice_get, Option, None, Some, Result, Ok, Err, IfOk, IfErr}
+use Rattle.std.specs.Prelude.{Bool, true, false, nat_lt, if◌then◌else◌, slice_get, Some, Result, Ok, Err, IfOk, IfErr}
 use Rattle.std.proofs.lemmas.Option.{slice_get_past}
 use Rattle.tall_value.specs.Cells.{Seen, logical}
 use Rattle.tall_local.specs.Names.{named}
 use Rattle.tall_local.specs.declared.functions.ValueFunction.{ValueFunction}
 use Rattle.tall_local.specs.Arguments.{Argument}
 use Rattle.tall_local.specs.declared.functions.LocalFunction.TheVariants.{GetNext, HasNext, OfValues, Elsewhere}
-use Rattle.tall_local.specs.Expressions.{Valued, gives, stops, answered}
+use Rattle.tall_local.specs.Expressions.{gives, stops, answered}
 use Rattle.tall_local.specs.Locals.{Held, value, store, iterator, no_value, Locals, read_local, held_call, held_function, next_value, is_only_iterator}
 use Rattle.tall_local.specs.Memory.{scalar}
-use Rattle.tall_local.specs.Refusals.{Refusal, bad_argument, no_value_left, Stop, stop_at}
-use Rattle.tall_evaluate.specs.Senses.{Laws, Agrees, Does, DoesValue, Finds, Refuses, IsFree}
+use Rattle.tall_local.specs.Refusals.{Refusal, bad_argument, no_value_left, stop_at}
+use Rattle.tall_evaluate.specs.Senses.{Agrees, DoesValue, Finds}
 use Rattle.tall_memory.specs.declared.faults.MemoryFault.{MemoryFault}
 use Rattle.tall_memory.specs.declared.faults.MemoryFault.TheVariants as fault
 use Rattle.tall_fun.specs.declared.failures.Failure.{Failure}

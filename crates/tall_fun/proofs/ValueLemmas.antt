@@ -1,23 +1,20 @@
 -- Answers in code, and what the definitions give.
-use Rattle.std.proofs.Common.{◌≡◌, refl, sym, ap, ◌∙◌, ℕ, List, [], ◌∷◌, length, take, map, arith}
+use Rattle.std.proofs.Common.{◌≡◌, refl, ap, ◌∙◌, ℕ, List, [], ◌∷◌, map, arith}
 use Rattle.std.specs.Prelude.{false, Option, None, Some, option_map, Result, Ok, Err}
 use Rattle.std.proofs.lemmas.List.{take_all}
 use Rattle.tall_value.specs.Cells.{Seen, text}
 use Rattle.tall_column.specs.Columns.{SeenColumn}
 use Rattle.tall_column.specs.Tables.{HasHeight, IsTable, height_of}
-use Rattle.tall_local.specs.Locals.{Held, value, held}
+use Rattle.tall_local.specs.Locals.{held}
 use Rattle.tall_local.specs.Memory.{Memory, table}
 use Rattle.tall_local.specs.MemoryFunctions.{memory_rows, with_cells}
 use Rattle.tall_local.specs.Names.{each_named}
 use Rattle.tall_local.specs.Refusals.{Refusal, Stop, stop_at}
 use Rattle.tall_memory.specs.declared.faults.MemoryFault.{MemoryFault}
 use Rattle.tall_memory.specs.declared.faults.MemoryFault.TheVariants as fault
-use Rattle.tall_memory.specs.declared.values.MemoryValue.{MemoryValue}
 use Rattle.tall_memory.specs.Ends.{end_rows}
 use Rattle.tall_memory.specs.Values.{Gives, Lends}
-use Rattle.tall_fun.specs.declared.failures.Failure.{Failure}
-use Rattle.tall_fun.specs.declared.failures.Refused.TheVariants as refused
-use Rattle.tall_fun.specs.Failures.{memory_refusal, stop_of}
+use Rattle.tall_fun.specs.Failures.{memory_refusal}
 
 pub some_is : {A : Type 0} (a b : A) → Some a ≡ Some b → a ≡ b
 some_is a b h = cc
@@ -38,10 +35,10 @@ gives_refused want fault.Memory r h e = absurd (none_is r e)
 pub held_refused : (want : Result Memory Refusal) (f : MemoryFault) (r : Refusal) → Gives want (Err f) → memory_refusal f ≡ Some r → held want ≡ Err r
 held_refused want f r h e = ap held (gives_refused want f r h e)
 
-pub answers_at : (line : ℕ) (want : Result Held Refusal) (f : MemoryFault) (stop : Stop)
+pub answers_at : {A : Type 0} (line : ℕ) (want : Result A Refusal) (f : MemoryFault) (stop : Stop)
     → ((r : Refusal) → memory_refusal f ≡ Some r → want ≡ Err r)
     → option_map (stop_at line) (memory_refusal f) ≡ Some stop → (r : Refusal) × (want ≡ Err r) × (stop_at line r ≡ stop)
-answers_at line want f stop h e = found (memory_refusal f) refl e
+answers_at {A} line want f stop h e = found (memory_refusal f) refl e
   where
     some_stop : (r : Refusal) → Some (stop_at line r) ≡ Some stop → stop_at line r ≡ stop
     some_stop r e = cc

@@ -1,6 +1,8 @@
 -- What a failure inside a function names: none where there is no memory.
-use Rattle.std.specs.Prelude.{◌≡◌, Option, None, Some, option_map, Result, Ok, Err}
+use Rattle.std.specs.Prelude.{Option, None, Some, option_map}
 use Rattle.tall_local.specs.Refusals.{Refusal, undefined, mixed_class, bad_class, bad_size, bad_argument, bad_index, failed, no_value_left, no_progress, too_many_turns, bad_key, bad_value, too_many_rows, Stop, stop_at}
+use Rattle.tall_kv.specs.declared.faults.PairFault.{PairFault}
+use Rattle.tall_kv.specs.declared.faults.PairFault.TheVariants as pair
 use Rattle.tall_memory.specs.declared.faults.MemoryFault.{MemoryFault}
 use Rattle.tall_memory.specs.declared.faults.MemoryFault.TheVariants as fault
 use Rattle.tall_fun.specs.declared.failures.Refused.{Refused}
@@ -28,3 +30,10 @@ refusal_of refused.TooManyRows = Some too_many_rows
 
 abbrev pub stop_of : Failure → Option Stop
 stop_of f = option_map (stop_at f.line) (refusal_of f.refused)
+
+-- the same of a pair that a store refuses
+abbrev pub pair_stop : PairFault → Option Stop
+pair_stop (pair.KeyClass line) = Some (stop_at line bad_key)
+pair_stop (pair.ValueClass line) = Some (stop_at line bad_value)
+pair_stop (pair.TooManyRows line) = Some (stop_at line too_many_rows)
+pair_stop pair.Memory = None

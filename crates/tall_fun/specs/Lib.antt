@@ -1,3 +1,7 @@
 pub mod Failures
 pub mod Values
 pub mod Scopes
+pub mod Frames
+pub mod Faults
+pub mod Bounds
+pub mod Loops

@@ -57,3 +57,8 @@ value_before_colon [] = None
 -- the functions that stand in functions alone, or in scripts alone
 abbrev pub own_functions : List (List ℕ × LocalFunction)
 own_functions = drop 35 local_functions
+
+-- an answer of another type
+abbrev pub AnswersOf : {A : Type 0} → Result A Refusal → Result A MemoryFault → Type 0
+AnswersOf want (Ok a) = want ≡ Ok a
+AnswersOf want (Err f) = (r : Refusal) → memory_refusal f ≡ Some r → want ≡ Err r

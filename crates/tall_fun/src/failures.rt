@@ -1,6 +1,7 @@
 //! Why an expression or a statement of a function goes no further.
-ghost use Rattle.std.specs.Prelude.{◌≡◌, None};
-ghost use Rattle.tall_fun.specs.Failures.{stop_of};
+ghost use Rattle.std.specs.Prelude.{◌≡◌, None, option_map};
+ghost use Rattle.tall_local.specs.Refusals.{stop_at};
+ghost use Rattle.tall_fun.specs.Failures.{memory_refusal, stop_of};
 
 use tall_memory::MemoryFault;
 
@@ -31,5 +32,15 @@ pub(crate) fn no_memory() -> Failure
     Failure {
         line: 0,
         refused: Refused::Value(MemoryFault::Memory),
+    }
+}
+
+/// An answer over values in memory that is refused on a line.
+pub(crate) fn failed(line: u32, fault: MemoryFault) -> Failure
+    ensures { stop_of result ≡ option_map (stop_at line) (memory_refusal fault) }
+{
+    Failure {
+        line,
+        refused: Refused::Value(fault),
     }
 }

@@ -27,6 +27,7 @@ use tall_memory::{MemoryFault, MemoryValue, constant_named};
 use tall_value::{Cell, Name, Text};
 
 /// The names of a function as an expression sees them, the values of its iterator, and how many of them were given.
+#[derive(Drop)]
 pub(crate) struct Scope<'n> {
     pub(crate) alloc: Global,
     pub(crate) names: &'n Names<'n>,

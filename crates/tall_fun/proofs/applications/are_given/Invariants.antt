@@ -2,7 +2,6 @@ use Rattle.std.proofs.Common.{◌≡◌, drop, map}
 use Rattle.std.specs.Option.{is_some}
 use Rattle.tall_local.specs.Arguments.{value_given}
 use Rattle.tall_local.specs.Lists.{all_of}
-use Rattle.tall_local.specs.Locals.{argument_by, memory_of}
 use Rattle.tall_evaluate.specs.Senses.{argument_seen}
 use Rattle.tall_fun.specs.Values.{held_seen}
 use Rattle.tall_fun.proofs.applications.are_given.Given as goal

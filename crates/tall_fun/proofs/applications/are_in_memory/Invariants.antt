@@ -1,6 +1,5 @@
 use Rattle.std.proofs.Common.{◌≡◌, drop, map}
 use Rattle.std.specs.Option.{is_some}
-use Rattle.tall_local.specs.Arguments.{value_given}
 use Rattle.tall_local.specs.Lists.{all_of}
 use Rattle.tall_local.specs.Locals.{argument_by, memory_of}
 use Rattle.tall_evaluate.specs.Senses.{argument_seen}

@@ -1,5 +1,4 @@
-use Rattle.std.proofs.Common.{◌∙◌, ◌≡◌, sym, ap, map, length}
-use Rattle.std.specs.Prelude.{true, false}
+use Rattle.std.proofs.Common.{◌∙◌, sym, ap, map}
 use Rattle.std.proofs.lemmas.List.{length-map}
 use Rattle.tall_local.specs.Applications.{takes}
 use Rattle.tall_evaluate.specs.Senses.{argument_seen}

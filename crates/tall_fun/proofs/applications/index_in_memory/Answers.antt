@@ -1,5 +1,5 @@
-use Rattle.std.proofs.Common.{◌∙◌, ◌≡◌, sym, ap, map}
-use Rattle.std.specs.Prelude.{Some, None, option_map}
+use Rattle.std.proofs.Common.{◌∙◌, sym, ap, map}
+use Rattle.std.specs.Prelude.{option_map}
 use Rattle.tall_memory.specs.Values.{ref_seen}
 use Rattle.tall_evaluate.specs.Senses.{argument_seen}
 use Rattle.tall_fun.specs.Values.{held_seen}

@@ -1,4 +1,4 @@
-use Rattle.std.proofs.Common.{◌∙◌, ◌≡◌, sym, subst, ap}
+use Rattle.std.proofs.Common.{sym, subst, ap}
 use Rattle.std.specs.Prelude.{Ok, Err}
 use Rattle.tall_local.specs.Locals.{held}
 use Rattle.tall_local.specs.MemoryIndexing.{memory_member}

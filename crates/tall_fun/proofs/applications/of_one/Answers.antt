@@ -1,4 +1,4 @@
-use Rattle.std.proofs.Common.{subst, ◌∷◌, []}
+use Rattle.std.proofs.Common.{subst, []}
 use Rattle.tall_local.specs.Applications.{application}
 use Rattle.tall_local.specs.Memory.{scalar_in}
 use Rattle.tall_local.specs.MemoryFunctions.{memory_application}

@@ -1,4 +1,4 @@
-use Rattle.std.proofs.Common.{rules, ◌≡◌, map}
+use Rattle.std.proofs.Common.{rules}
 use Rattle.tall_fun.proofs.NameLemmas.{inserted}
 use Rattle.tall_fun.proofs.names.Names.put.Goals as goal
 
