@@ -1,0 +1,4 @@
+pub mod Phases
+pub mod Pieces
+pub mod Takers
+pub mod Answers

@@ -1,0 +1,16 @@
+//! What a map phase is given.
+ghost use Rattle.std.specs.Prelude.{Option};
+ghost use Rattle.tall_mapred.specs.Phases.{Given};
+
+use std::marker::Brand;
+
+/// The datastore and the function of a map phase, for clauses alone. It has no calls.
+pub(crate) trait MapGiven {
+    ghost given: { Option Given };
+}
+
+impl MapGiven for Brand {
+    ghost use Rattle.std.specs.Prelude.{None};
+
+    ghost given = { None };
+}
