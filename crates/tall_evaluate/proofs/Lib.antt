@@ -1,3 +1,4 @@
 pub mod Sequences
 pub mod Forms
 pub mod Lists
+pub mod Still

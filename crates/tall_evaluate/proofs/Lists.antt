@@ -1,6 +1,8 @@
 -- Arguments, as far as they have come: what is done, before what the rest gives, is what all give.
 use Rattle.std.proofs.Common.{◌≡◌, refl, sym, subst, ap, ◌∙◌, ℕ, ◌+◌, ◌<◌, List, [], ◌∷◌, ◌++◌, length, drop, map, get_or}
 use Rattle.std.specs.Prelude.{Bool, true, false, Result, Ok, Err, Option, None, Some, IfOk, IfErr}
+use Rattle.std.specs.Prelude.{◌&&◌}
+use Rattle.std.proofs.lemmas.Bool.{and_parts, and_from}
 use Rattle.std.proofs.lemmas.List.{append-nil, append_assoc}
 use Rattle.tall_grammar.specs.declared.expressions.Arg.{Arg}
 use Rattle.tall_grammar.specs.Trees.{Tree, tree, Args, no_args, value_arg, colon_arg}
@@ -8,12 +10,14 @@ use Rattle.tall_grammar.specs.Views.{arg_of, args_of}
 use Rattle.tall_local.specs.Arguments.{Argument, colon}
 use Rattle.tall_local.specs.Expressions.{Language, Valued, gives, stops, go_on, argument, handle_in, value, arguments}
 use Rattle.tall_local.specs.Refusals.{Stop}
+use Rattle.tall_local.specs.StateLaws.{state_after, calls_none, calls_none_in}
+use Rattle.tall_local.proofs.StatesKept.{arguments_kept}
 use Rattle.tall_evaluate.specs.Calls.{argument_value}
 use Rattle.tall_evaluate.specs.Orders.{ArgsAreInOrder, last_number}
 use Rattle.tall_evaluate.specs.declared.languages.Argument as code
 use Rattle.tall_evaluate.specs.declared.languages.Argument.TheVariants as kind
 use Rattle.tall_evaluate.specs.Senses.{Senses, Laws, Agrees, Does, IsFree, ArgumentFits, ArgumentsFit, argument_seen}
-use Rattle.tall_evaluate.proofs.Sequences.{free}
+use Rattle.tall_evaluate.proofs.Sequences.{reached_on, free, no_failure, same_failure}
 
 -- what is done, before what comes
 abbrev pub behind : {V S : Type 0} → List (Argument V) → Valued (List (Argument V)) S → Valued (List (Argument V)) S
@@ -71,6 +75,17 @@ module _ {L W : Type 0} (Fits : L → W → Type 0) where
   fits_more t [] a h k = (k, tt)
   fits_more t (b ∷ args) a h k = (h.0, fits_more t args a h.1 k)
 
+-- ---- arguments that call none of some names
+
+module _ (test : List ℕ → Bool) where
+  none_first : (o : Option Tree) (os : List (Option Tree)) → calls_none_in test (args_of (o ∷ os)) ≡ true → calls_none_in test (args_of (o ∷ [])) ≡ true
+  none_first (Some e) os h = and_from (calls_none test e) true ((and_parts (calls_none test e) (calls_none_in test (args_of os)) h).0) refl
+  none_first None os h = refl
+
+  none_rest : (o : Option Tree) (os : List (Option Tree)) → calls_none_in test (args_of (o ∷ os)) ≡ true → calls_none_in test (args_of os) ≡ true
+  none_rest (Some e) os h = (and_parts (calls_none test e) (calls_none_in test (args_of os)) h).1
+  none_rest None os h = h
+
 -- ---- some arguments are done
 
 module _ {L G W E F V S I : Type 0} (m : Senses L G W E F V S I) where
@@ -82,6 +97,7 @@ module _ {L G W E F V S I : Type 0} (m : Senses L G W E F V S I) where
     pub ready : m.done t last
     pub order : ArgsAreInOrder m.follows last (args_of (map arg_of rest))
     pub same : last_number after (args_of (map arg_of args)) ≡ last_number last (args_of (map arg_of rest))
+    pub still : calls_none_in m.opens (args_of (map arg_of args)) ≡ true → m.still s t × (calls_none_in m.opens (args_of (map arg_of rest)) ≡ true)
 
   pub started : (laws : Laws m) (args : List Arg) (takes : Bool) (after : ℕ) (s : L) → m.done s after → ArgsAreInOrder m.follows after (args_of (map arg_of args))
       → Going args takes after s s [] after args
@@ -92,6 +108,7 @@ module _ {L G W E F V S I : Type 0} (m : Senses L G W E F V S I) where
     ready = h;
     order = o;
     same = refl;
+    still = λ none. (laws.still_on.nothing s, none);
   }
 
   -- what the first of the rest gives, or why it stops
@@ -102,11 +119,32 @@ module _ {L G W E F V S I : Type 0} (m : Senses L G W E F V S I) where
         (λ a v. go_on (arguments (m.defined i) (args_of (map arg_of rest)) takes v) (λ more w. gives (a ∷ more) w)))
     unfolded i holds = h.given i holds ∙ ap (λ v. behind (map (argument_seen (m.shown i)) done) v) (one_first (m.defined i) takes (arg_of x) (map arg_of rest) (m.state i t))
 
+    -- what the definitions leave, where the first of the rest leaves what may go on to it
+    rest_on : (i : I) (z : S) → m.holds i t → m.reaches z (state_after (argument_value (m.defined i) takes (arg_of x) (m.state i t)))
+        → m.reaches z (state_after (arguments (m.defined i) (args_of (map arg_of args)) takes (m.state i s)))
+    rest_on i z holds first =
+        subst (λ v. m.reaches z (state_after v)) (sym (unfolded i holds))
+        (reached_on m.reaches laws.reaches_on z (go_on (argument_value (m.defined i) takes (arg_of x) (m.state i t))
+        (λ a v. go_on (arguments (m.defined i) (args_of (map arg_of rest)) takes v) (λ more w. gives (a ∷ more) w)))
+        (λ more u. gives (map (argument_seen (m.shown i)) done ++ more) u)
+        (reached_on m.reaches laws.reaches_on z (argument_value (m.defined i) takes (arg_of x) (m.state i t))
+        (λ a v. go_on (arguments (m.defined i) (args_of (map arg_of rest)) takes v) (λ more w. gives (a ∷ more) w)) first
+        (λ a v. reached_on m.reaches laws.reaches_on v (arguments (m.defined i) (args_of (map arg_of rest)) takes v) (λ more w. gives (a ∷ more) w)
+        (arguments_kept (m.defined i) m.reaches laws.reaches_on (laws.calls_reach i) (args_of (map arg_of rest)) takes v)
+        (λ more w. laws.reaches_on.nothing w)))
+        (λ more u. laws.reaches_on.nothing u))
+
+    -- what was left as it was
+    pub one_still : (calls_none_in m.opens (args_of (arg_of x ∷ [])) ≡ true → m.still t u) → calls_none_in m.opens (args_of (map arg_of args)) ≡ true → m.still s u
+    one_still k none =
+        let before = h.still none in
+        laws.still_on.both s t u before.0 (k (none_first m.opens (arg_of x) (map arg_of rest) before.1))
+
     pub one_more : (a : code.Argument W) (done' : List (code.Argument W)) (last' : ℕ)
         → Does {X = code.Argument W} {Y = Argument V} m (λ s a. ArgumentFits (m.fits s) a) (λ i a. argument_seen (m.shown i) a) (λ i s. argument_value (m.defined i) takes (arg_of x) s) t u (Ok a)
-        → m.done u (last_number last (args_of (arg_of x ∷ []))) → done' ≡ done ++ a ∷ [] → last' ≡ last_number last (args_of (arg_of x ∷ []))
+        → m.done u (last_number last (args_of (arg_of x ∷ []))) → (calls_none_in m.opens (args_of (arg_of x ∷ [])) ≡ true → m.still t u) → done' ≡ done ++ a ∷ [] → last' ≡ last_number last (args_of (arg_of x ∷ []))
         → Going args takes after s u done' last' rest
-    one_more a done' last' d r e f = record {
+    one_more a done' last' d r k e f = record {
       later = laws.both s t u h.later d.later;
       fits = subst (λ ys. ArgumentsFit (m.fits u) ys) (sym e)
           (fits_more m.fits u done a (fits_kept m.fits t u (λ w k. laws.fits_later t u w d.later k) done h.fits) d.fits);
@@ -121,6 +159,7 @@ module _ {L G W E F V S I : Type 0} (m : Senses L G W E F V S I) where
       ready = subst (λ n. m.done u n) (sym f) r;
       order = subst (λ n. ArgsAreInOrder m.follows n (args_of (map arg_of rest))) (sym f) (order_rest m.follows (arg_of x) (map arg_of rest) last h.order);
       same = h.same ∙ last_rest (arg_of x) (map arg_of rest) last ∙ ap (λ n. last_number n (args_of (map arg_of rest))) (sym f);
+      still = λ none. (one_still k none, none_rest m.opens (arg_of x) (map arg_of rest) (h.still none).1);
     }
 
     pub one_failed : {X : Type 0} (items : X → List (code.Argument W)) (e : E) (r : Result X E) → r ≡ Err e
@@ -134,6 +173,7 @@ module _ {L G W E F V S I : Type 0} (m : Senses L G W E F V S I) where
           ∙ ap (λ v. behind (map (argument_seen (m.shown i)) done) (go_on v (λ a v. go_on (arguments (m.defined i) (args_of (map arg_of rest)) takes v) (λ more w. gives (a ∷ more) w))))
           (d.agrees i holds stop named);
       blames = laws.blames_before s t u e h.later d.blames;
+      unfinished = λ i holds other same none. rest_on i (m.state i u) (laws.holds_before t u i d.later holds) (d.unfinished i holds other (same_failure {X = X} {Y = code.Argument W} e other same) none);
     })
 
     pub no_room : {X : Type 0} (items : X → List (code.Argument W)) (a : code.Argument W) (e : E)
@@ -143,6 +183,8 @@ module _ {L G W E F V S I : Type 0} (m : Senses L G W E F V S I) where
     no_room items a e d k =
         free m laws (λ s a. ArgumentsFit (m.fits s) (items a)) (λ i a. map (argument_seen (m.shown i)) (items a)) (λ i s. arguments (m.defined i) (args_of (map arg_of args)) takes s) s u e
         (laws.both s t u h.later d.later) k
+        (λ i holds. rest_on i (m.state i u) (laws.holds_before t u i d.later holds) (subst (λ v. m.reaches (m.state i u) (state_after v))
+        (sym (d.agrees i holds)) (laws.reaches_on.nothing (m.state i u))))
 
   pub ended : {X : Type 0} (items : X → List (code.Argument W)) (args : List Arg) (takes : Bool) (after last : ℕ) (s t : L) (x : X)
       → Going args takes after s t (items x) last []
@@ -152,7 +194,12 @@ module _ {L G W E F V S I : Type 0} (m : Senses L G W E F V S I) where
     fits = h.fits;
     agrees = λ i holds. h.given i holds ∙ ap (λ ys. gives ys (m.state i t)) (append-nil (map (argument_seen (m.shown i)) (items x)));
     blames = tt;
+    unfinished = λ i holds e same none. absurd (no_failure x e same);
   }
+
+  pub ended_still : (args : List Arg) (takes : Bool) (after last : ℕ) (s t : L) (done : List (code.Argument W))
+      → Going args takes after s t done last [] → calls_none_in m.opens (args_of (map arg_of args)) ≡ true → m.still s t
+  ended_still args takes after last s t done h none = (h.still none).0
 
   pub ended_last : (args : List Arg) (takes : Bool) (after last : ℕ) (s t : L) (done : List (code.Argument W))
       → Going args takes after s t done last [] → m.done t (last_number after (args_of (map arg_of args)))

@@ -13,8 +13,8 @@ callee_seen named (Unknown line name) = definition.no_function line name.now
 callee_seen named Value = definition.a_value
 
 -- what holds of a function that is called
-abbrev pub IfFunction : {G : Type 0} → Callee G → Type 0 → Type 0
-IfFunction (Function f) P = P
+abbrev pub IfFunction : {G : Type 0} → Callee G → (G → Type 0) → Type 0
+IfFunction (Function f) P = P f
 IfFunction (Unknown line name) P = Unit {0}
 IfFunction Value P = Unit {0}
 

@@ -1,9 +1,10 @@
 -- What a language in code says of a language of the definitions. Its values may mean several things, as the nodes of a graph do
 -- over files that are not told: whatever they mean, each answer is that of the definitions.
-use Rattle.std.specs.Prelude.{ℕ, ◌≡◌, List, [], ◌∷◌, Option, None, Some, Result, Ok, Err, IfOk, IfErr}
+use Rattle.std.specs.Prelude.{ℕ, ◌≡◌, Bool, false, List, [], ◌∷◌, map, Option, None, Some, Result, Ok, Err, IfOk, IfErr}
 use Rattle.tall_local.specs.Arguments as arguments
 use Rattle.tall_local.specs.Expressions.{Language, Valued, gives, stops}
 use Rattle.tall_local.specs.Refusals.{Stop}
+use Rattle.tall_local.specs.StateLaws.{state_after, IsKept, CallsKeep}
 use Rattle.tall_evaluate.specs.declared.languages.Argument.{Argument}
 use Rattle.tall_evaluate.specs.declared.languages.Argument.TheVariants as argument
 
@@ -29,6 +30,14 @@ pub record Senses (L G W E F V S I : Type 0) : Type 1 where
   -- the expression with this number may come next, and was the last
   pub ready : L → ℕ → Type 0
   pub done : L → ℕ → Type 0
+  -- the state may go on to the other
+  pub reaches : S → S → Type 0
+  -- the functions by name, whatever the values mean
+  pub functions : List ℕ → Option F
+  -- a call by one of these names, or of one of these functions, may do more than others; `still` is what the others leave
+  pub opens : List ℕ → Bool
+  pub opens_by : F → Bool
+  pub still : L → L → Type 0
 
 -- what is kept is kept by two calls after one another, and what a value means later it has meant before
 pub record Laws {L G W E F V S I : Type 0} (m : Senses L G W E F V S I) : Type 0 where
@@ -39,6 +48,11 @@ pub record Laws {L G W E F V S I : Type 0} (m : Senses L G W E F V S I) : Type 0
   pub blames_before : (s t u : L) (e : E) → m.later s t → m.blames t u e → m.blames s u e
   pub ready_done : (s : L) (n : ℕ) → m.ready s n → m.done s n
   pub done_ready : (s : L) (n k : ℕ) → m.done s n → m.follows n k → m.ready s k
+  pub reaches_on : IsKept m.reaches
+  pub calls_reach : (i : I) → CallsKeep (m.defined i) m.reaches
+  pub functions_are : (i : I) (name : List ℕ) → (m.defined i).function_named name ≡ m.functions name
+  pub opens_named : (name : List ℕ) (f : F) → m.functions name ≡ Some f → m.opens name ≡ false → m.opens_by f ≡ false
+  pub still_on : IsKept m.still
 
 -- ---- answers
 
@@ -47,13 +61,15 @@ abbrev pub Agrees : {V S W E : Type 0} → (W → V) → (E → Option Stop) →
 Agrees shown stop_of want (Ok w) t = want ≡ gives (shown w) t
 Agrees shown stop_of want (Err e) t = (stop : Stop) → stop_of e ≡ Some stop → want ≡ stops stop t
 
--- a call that evaluates something, between two states; `X` is what it gives in code, and `Y` what the definitions give
+-- a call that evaluates something, between two states; `X` is what it gives in code, and `Y` what the definitions give. A
+-- failure that names no stop left a state that may go on to what the definitions leave
 pub record Does {L G W E F V S I X Y : Type 0} (m : Senses L G W E F V S I) (Fits : L → X → Type 0) (shown : I → X → Y)
     (want : I → S → Valued Y S) (s t : L) (r : Result X E) : Type 0 where
   pub later : m.later s t
   pub fits : IfOk r (λ x. Fits t x)
   pub agrees : (i : I) → m.holds i t → Agrees (shown i) m.stop_of (want i (m.state i s)) r (m.state i t)
   pub blames : IfErr r (λ e. m.blames s t e)
+  pub unfinished : (i : I) → m.holds i t → (e : E) → r ≡ Err e → m.stop_of e ≡ None → m.reaches (m.state i t) (state_after (want i (m.state i s)))
 
 -- ---- arguments
 
@@ -89,3 +105,12 @@ pub record Refuses {L G W E F V S I : Type 0} (m : Senses L G W E F V S I) (want
 pub record IsFree {L G W E F V S I : Type 0} (m : Senses L G W E F V S I) (s : L) (e : E) : Type 0 where
   pub free : m.stop_of e ≡ None
   pub blames : m.blames s s e
+
+-- ---- calls of functions
+
+-- a call with the number and on the line, between two states; one that opens nothing leaves more as it was
+pub record CallDoes {L G W E F V S I : Type 0} (m : Senses L G W E F V S I) (number line : ℕ) (f : G) (args : List (Argument W))
+    (s t : L) (r : Result W E) : Type 0 where
+  pub does : DoesValue m (λ i u. (m.defined i).call number line (m.named f) (map (argument_seen (m.shown i)) args) u) s t r
+  pub done : IfOk r (λ _. m.done t number)
+  pub still : m.opens_by (m.named f) ≡ false → m.still s t

@@ -1,4 +1,4 @@
-//! What a language tells of names, operators, indexes and calls.
+//! What a language tells of names, operators and indexes.
 ghost use Rattle.std.specs.Prelude.{◌≡◌, IfOk, map, option_map};
 ghost use Rattle.tall_value.specs.Cells.{double, text};
 ghost use Rattle.tall_local.specs.Expressions.{answered, gives};
@@ -30,8 +30,9 @@ pub enum Argument<'a, W> {
     Function(&'a Name),
 }
 
-/// What names, operators, indexes and calls mean. Its answers are those of a language of the definitions, `senses.defined`,
-/// whatever its values mean; want of memory, and a failure that `blames` explains, may come at any time.
+/// What names, operators and indexes mean. Its answers are those of a language of the definitions, `senses.defined`,
+/// whatever its values mean; want of memory, and a failure that `blames` explains, may come at any time. What a call does is
+/// told by a closure beside it, which may start threads as no method of an impl may.
 pub trait Language {
     /// What may be called.
     type Function: Copy;
@@ -78,7 +79,7 @@ pub trait Language {
 
     /// The function of a name.
     fn function_named(&self, name: &Name) -> Option<Self::Function>
-        ensures { (i : Self.Sense) → Self.senses.holds i self.now → (Self.senses.defined i).function_named name.now ≡ option_map Self.senses.named result };
+        ensures { Self.senses.functions name.now ≡ option_map Self.senses.named result };
 
     /// A call of this function takes `@` with the name of a function that is there as an argument.
     fn takes_handles(&self, function: Self::Function) -> bool
@@ -106,7 +107,8 @@ pub trait Language {
         requires ready { Self.senses.ready self.old place.number }
         requires operand { Self.senses.fits self.old operand }
         ensures does { DoesValue Self.senses (λ i s. answered place.line s ((Self.senses.defined i).prefix_value place.number place.line op (Self.senses.shown i operand))) self.old self.new result }
-        ensures done { IfOk result (λ _. Self.senses.done self.new place.number) };
+        ensures done { IfOk result (λ _. Self.senses.done self.new place.number) }
+        ensures still { Self.senses.still self.old self.new };
 
     /// An operator between two operands.
     fn infix(
@@ -120,7 +122,8 @@ pub trait Language {
         requires left { Self.senses.fits self.old left }
         requires right { Self.senses.fits self.old right }
         ensures does { DoesValue Self.senses (λ i s. answered place.line s ((Self.senses.defined i).infix_value place.number place.line op (Self.senses.shown i left) (Self.senses.shown i right))) self.old self.new result }
-        ensures done { IfOk result (λ _. Self.senses.done self.new place.number) };
+        ensures done { IfOk result (λ _. Self.senses.done self.new place.number) }
+        ensures still { Self.senses.still self.old self.new };
 
     /// A value, a point and a name.
     fn member(
@@ -132,7 +135,8 @@ pub trait Language {
         requires ready { Self.senses.ready self.old place.number }
         requires whole { Self.senses.fits self.old whole }
         ensures does { DoesValue Self.senses (λ i s. answered place.line s ((Self.senses.defined i).member (Self.senses.shown i whole) name.now)) self.old self.new result }
-        ensures done { IfOk result (λ _. Self.senses.done self.new place.number) };
+        ensures done { IfOk result (λ _. Self.senses.done self.new place.number) }
+        ensures still { Self.senses.still self.old self.new };
 
     /// An index of a value.
     fn index(
@@ -145,19 +149,8 @@ pub trait Language {
         requires whole { Self.senses.fits self.old whole }
         requires arguments { ArgumentsFit (Self.senses.fits self.old) arguments.items }
         ensures does { DoesValue Self.senses (λ i s. answered place.line s ((Self.senses.defined i).index place.number place.line (Self.senses.shown i whole) (map (argument_seen (Self.senses.shown i)) arguments.entry.items))) self.old self.new result }
-        ensures done { IfOk result (λ _. Self.senses.done self.new place.number) };
-
-    /// A call of a function.
-    fn call(
-        &mut self,
-        place: Place,
-        function: Self::Function,
-        arguments: Vec<Argument<'_, Self::Value>>,
-    ) -> Result<Self::Value, Self::Failure>
-        requires ready { Self.senses.ready self.old place.number }
-        requires arguments { ArgumentsFit (Self.senses.fits self.old) arguments.items }
-        ensures does { DoesValue Self.senses (λ i s. (Self.senses.defined i).call place.number place.line (Self.senses.named function) (map (argument_seen (Self.senses.shown i)) arguments.entry.items) s) self.old self.new result }
-        ensures done { IfOk result (λ _. Self.senses.done self.new place.number) };
+        ensures done { IfOk result (λ _. Self.senses.done self.new place.number) }
+        ensures still { Self.senses.still self.old self.new };
 
     ghost laws: { Laws Self.senses };
 }

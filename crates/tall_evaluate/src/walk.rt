@@ -1,14 +1,16 @@
 //! One walk over an expression: its parts in the order of their numbers, up to the first that has no value.
-ghost use Rattle.std.specs.Prelude.{◌≡◌, ◌++◌, ◌∷◌, [], IfOk, Some, map, option_map, true};
+ghost use Rattle.std.specs.Borrow.{MutBor};
+ghost use Rattle.std.specs.Prelude.{◌≡◌, ◌++◌, ◌∷◌, [], IfOk, Result, Some, false, map, option_map, true};
 ghost use Rattle.tall_grammar.specs.Trees.{tree};
 ghost use Rattle.tall_grammar.specs.Trees as trees;
 ghost use Rattle.tall_grammar.specs.Views.{arg_of, args_of, tree_of, trees_of};
 ghost use Rattle.tall_local.specs.Expressions as definition;
 ghost use Rattle.tall_local.specs.Expressions.{argument, arguments, gives, handle_in, listed_texts, value};
 ghost use Rattle.tall_local.specs.Memory.{texts};
+ghost use Rattle.tall_local.specs.StateLaws.{calls_none, calls_none_in, is_name_in};
 ghost use Rattle.tall_evaluate.specs.Calls.{IfFunction, argument_value, callee_seen, function_call, value_index};
 ghost use Rattle.tall_evaluate.specs.Orders.{AreInOrder, ArgsAreInOrder, first_number, last_number, own_number};
-ghost use Rattle.tall_evaluate.specs.Senses.{ArgumentFits, ArgumentsFit, Does, DoesValue, Finds, argument_seen};
+ghost use Rattle.tall_evaluate.specs.Senses.{ArgumentFits, ArgumentsFit, CallDoes, Does, DoesValue, Finds, argument_seen};
 
 use crate::languages::{Argument, Language, Place};
 use std::alloc::{AllocError, Global};
@@ -61,7 +63,8 @@ enum Callee<'a, F> {
 /// What the expression before parentheses is.
 fn what_is_called<'a, L: Language>(language: &L, e: &'a Expr) -> Callee<'a, L::Function>
     requires { L.senses.ready language.now (first_number (tree_of e.now)) }
-    ensures done { IfFunction result (L.senses.done language.now (own_number (tree_of e.now))) }
+    ensures done { IfFunction result (λ _. L.senses.done language.now (own_number (tree_of e.now))) }
+    ensures closed { IfFunction result (λ f. is_name_in L.senses.opens (tree_of e.now) ≡ false → L.senses.opens_by (L.senses.named f) ≡ false) }
     ensures callee { (i : L.Sense) → L.senses.holds i language.now → definition.callee (L.senses.defined i) (L.senses.state i language.now) (tree_of e.now) ≡ callee_seen L.senses.named result }
 {
     match &e.node {
@@ -75,7 +78,8 @@ fn what_is_called<'a, L: Language>(language: &L, e: &'a Expr) -> Callee<'a, L::F
 
 /// What a name before parentheses is: a variable with a value is no function.
 fn callee_named<'a, L: Language>(language: &L, line: u32, name: &'a Name) -> Callee<'a, L::Function>
-    ensures { (i : L.Sense) → L.senses.holds i language.now → definition.callee (L.senses.defined i) (L.senses.state i language.now) (tree line line (trees.name name.now)) ≡ callee_seen L.senses.named result }
+    ensures closed { IfFunction result (λ f. L.senses.opens name.now ≡ false → L.senses.opens_by (L.senses.named f) ≡ false) }
+    ensures callee { (i : L.Sense) → L.senses.holds i language.now → definition.callee (L.senses.defined i) (L.senses.state i language.now) (tree line line (trees.name name.now)) ≡ callee_seen L.senses.named result }
 {
     if language.has_value(name) {
         return Callee::Value;
@@ -90,15 +94,18 @@ fn callee_named<'a, L: Language>(language: &L, line: u32, name: &'a Name) -> Cal
 /// The value of an expression, or why there is none. The parts are evaluated in the order of their numbers, and the first
 /// failure ends it, with what was done before it. A name before parentheses that is neither a variable nor a function is
 /// refused before the arguments, and a known function's own checks come after them (docs/LANGUAGE.md, order of checks).
-pub fn evaluate<L: Language>(
-    alloc: Global,
-    language: &mut L,
-    e: &Expr,
-) -> Result<L::Value, L::Failure>
+/// `call` is what a call of a function does, with its arguments.
+pub fn evaluate<
+    L: Language,
+    C: Fn(&mut L, Place, L::Function, Vec<Argument<'_, L::Value>>) -> Result<L::Value, L::Failure>,
+>(alloc: Global, language: &mut L, call: &C, e: &Expr) -> Result<L::Value, L::Failure>
+    requires asks { (s : MutBor L) (p : Place) (f : L.Function) (args : _) → L.senses.ready s.now p.number → ArgumentsFit (L.senses.fits s.now) args.items → C.pre call.now s p f args }
+    requires gives { (s t : MutBor L) (p : Place) (f : L.Function) (args : _) (r : Result L.Value L.Failure) → L.senses.ready s.now p.number → ArgumentsFit (L.senses.fits s.now) args.items → C.post call.now s p f args r t → CallDoes L.senses p.number p.line f args.items s.now t.now r }
     requires ready { L.senses.ready language.old (first_number (tree_of e.now)) }
     requires order { AreInOrder L.senses.follows (tree_of e.now) }
     ensures does { DoesValue L.senses (λ i s. value (L.senses.defined i) (tree_of e.now) s) language.old language.new result }
     ensures done { IfOk result (λ _. L.senses.done language.new (own_number (tree_of e.now))) }
+    ensures still { calls_none L.senses.opens (tree_of e.now) ≡ true → L.senses.still language.old language.new }
 {
     match &e.node {
         Node::Number(n) => language.number(*n),
@@ -107,16 +114,16 @@ pub fn evaluate<L: Language>(
         Node::List(items) => list(alloc, language, items.as_slice()),
         Node::Handle(name) => Err(language.handle(e.line, name)),
         Node::Prefix(op, inner) => {
-            let operand = evaluate(alloc, language, inner.get())?;
+            let operand = evaluate(alloc, language, call, inner.get())?;
             language.prefix(place_of(e), *op, operand)
         }
         Node::Infix(op, left, right) => {
-            let left = evaluate(alloc, language, left.get())?;
-            let right = evaluate(alloc, language, right.get())?;
+            let left = evaluate(alloc, language, call, left.get())?;
+            let right = evaluate(alloc, language, call, right.get())?;
             language.infix(place_of(e), *op, left, right)
         }
         Node::Member(whole, name) => {
-            let whole = evaluate(alloc, language, whole.get())?;
+            let whole = evaluate(alloc, language, call, whole.get())?;
             language.member(place_of(e), whole, name)
         }
         Node::Call(callee, args) => {
@@ -126,6 +133,7 @@ pub fn evaluate<L: Language>(
                     called(
                         alloc,
                         language,
+                        call,
                         place_of(e),
                         function,
                         callee.number,
@@ -134,10 +142,11 @@ pub fn evaluate<L: Language>(
                 }
                 Callee::Unknown { line, name } => Err(language.undefined(line, name)),
                 Callee::Value => {
-                    let whole = evaluate(alloc, language, callee)?;
+                    let whole = evaluate(alloc, language, call, callee)?;
                     indexed(
                         alloc,
                         language,
+                        call,
                         place_of(e),
                         whole,
                         callee.number,
@@ -151,43 +160,57 @@ pub fn evaluate<L: Language>(
 
 #[cycle(walk)]
 /// A call of a function, whose own checks come after its arguments.
-fn called<L: Language>(
+fn called<
+    L: Language,
+    C: Fn(&mut L, Place, L::Function, Vec<Argument<'_, L::Value>>) -> Result<L::Value, L::Failure>,
+>(
     alloc: Global,
     language: &mut L,
+    call: &C,
     place: Place,
     function: L::Function,
     after: u32,
     args: &[Arg],
 ) -> Result<L::Value, L::Failure>
+    requires asks { (s : MutBor L) (p : Place) (f : L.Function) (args : _) → L.senses.ready s.now p.number → ArgumentsFit (L.senses.fits s.now) args.items → C.pre call.now s p f args }
+    requires gives { (s t : MutBor L) (p : Place) (f : L.Function) (args : _) (r : Result L.Value L.Failure) → L.senses.ready s.now p.number → ArgumentsFit (L.senses.fits s.now) args.items → C.post call.now s p f args r t → CallDoes L.senses p.number p.line f args.items s.now t.now r }
     requires done { L.senses.done language.old after }
     requires order { ArgsAreInOrder L.senses.follows after (args_of (map arg_of args.now)) }
     requires whole { L.senses.follows (last_number after (args_of (map arg_of args.now))) place.number }
     ensures does { DoesValue L.senses (λ i s. function_call (L.senses.defined i) place.number place.line (L.senses.named function) (args_of (map arg_of args.now)) s) language.old language.new result }
     ensures done { IfOk result (λ _. L.senses.done language.new place.number) }
+    ensures still { L.senses.opens_by (L.senses.named function) ≡ false → calls_none_in L.senses.opens (args_of (map arg_of args.now)) ≡ true → L.senses.still language.old language.new }
 {
     let takes = language.takes_handles(function);
-    let arguments = evaluate_arguments(alloc, language, takes, after, args)?;
-    language.call(place, function, arguments)
+    let arguments = evaluate_arguments(alloc, language, call, takes, after, args)?;
+    call(language, place, function, arguments)
 }
 
 #[cycle(walk)]
 /// An index of a value, with its arguments.
-fn indexed<L: Language>(
+fn indexed<
+    L: Language,
+    C: Fn(&mut L, Place, L::Function, Vec<Argument<'_, L::Value>>) -> Result<L::Value, L::Failure>,
+>(
     alloc: Global,
     language: &mut L,
+    call: &C,
     place: Place,
     whole: L::Value,
     after: u32,
     args: &[Arg],
 ) -> Result<L::Value, L::Failure>
+    requires asks { (s : MutBor L) (p : Place) (f : L.Function) (args : _) → L.senses.ready s.now p.number → ArgumentsFit (L.senses.fits s.now) args.items → C.pre call.now s p f args }
+    requires gives { (s t : MutBor L) (p : Place) (f : L.Function) (args : _) (r : Result L.Value L.Failure) → L.senses.ready s.now p.number → ArgumentsFit (L.senses.fits s.now) args.items → C.post call.now s p f args r t → CallDoes L.senses p.number p.line f args.items s.now t.now r }
     requires done { L.senses.done language.old after }
     requires fits { L.senses.fits language.old whole }
     requires order { ArgsAreInOrder L.senses.follows after (args_of (map arg_of args.now)) }
     requires whole { L.senses.follows (last_number after (args_of (map arg_of args.now))) place.number }
     ensures does { DoesValue L.senses (λ i s. value_index (L.senses.defined i) place.number place.line (L.senses.shown i whole) (args_of (map arg_of args.now)) s) language.old language.new result }
     ensures done { IfOk result (λ _. L.senses.done language.new place.number) }
+    ensures still { calls_none_in L.senses.opens (args_of (map arg_of args.now)) ≡ true → L.senses.still language.old language.new }
 {
-    let arguments = evaluate_arguments(alloc, language, false, after, args)?;
+    let arguments = evaluate_arguments(alloc, language, call, false, after, args)?;
     language.index(place, whole, arguments)
 }
 
@@ -218,23 +241,31 @@ fn handle<'a, L: Language>(
 
 #[cycle(walk)]
 /// An argument.
-fn argument<'a, L: Language>(
+fn argument<
+    'a,
+    L: Language,
+    C: Fn(&mut L, Place, L::Function, Vec<Argument<'_, L::Value>>) -> Result<L::Value, L::Failure>,
+>(
     alloc: Global,
     language: &mut L,
+    call: &C,
     takes: bool,
     after: u32,
     arg: &'a Arg,
 ) -> Result<Argument<'a, L::Value>, L::Failure>
+    requires asks { (s : MutBor L) (p : Place) (f : L.Function) (args : _) → L.senses.ready s.now p.number → ArgumentsFit (L.senses.fits s.now) args.items → C.pre call.now s p f args }
+    requires gives { (s t : MutBor L) (p : Place) (f : L.Function) (args : _) (r : Result L.Value L.Failure) → L.senses.ready s.now p.number → ArgumentsFit (L.senses.fits s.now) args.items → C.post call.now s p f args r t → CallDoes L.senses p.number p.line f args.items s.now t.now r }
     requires done { L.senses.done language.old after }
     requires order { ArgsAreInOrder L.senses.follows after (args_of (arg_of arg.now ∷ [])) }
     ensures does { Does L.senses (λ s a. ArgumentFits (L.senses.fits s) a) (λ i a. argument_seen (L.senses.shown i) a) (λ i s. argument_value (L.senses.defined i) takes (arg_of arg.now) s) language.old language.new result }
     ensures done { IfOk result (λ _. L.senses.done language.new (last_number after (args_of (arg_of arg.now ∷ [])))) }
+    ensures still { calls_none_in L.senses.opens (args_of (arg_of arg.now ∷ [])) ≡ true → L.senses.still language.old language.new }
 {
     match arg {
         Arg::Colon => Ok(Argument::Colon),
         Arg::Value(e) => match handle_in(takes, e) {
             Some((line, name)) => handle(language, line, name),
-            None => match evaluate(alloc, language, e) {
+            None => match evaluate(alloc, language, call, e) {
                 Ok(value) => Ok(Argument::Given(value)),
                 Err(failure) => Err(failure),
             },
@@ -261,22 +292,30 @@ fn added<'a, W: Drop>(arguments: &mut Vec<Argument<'a, W>>, value: Argument<'a, 
 
 #[cycle(walk)]
 /// The arguments of a call or of an index, from left to right; the expression with the number `after` stands before them.
-pub fn evaluate_arguments<'a, L: Language>(
+pub fn evaluate_arguments<
+    'a,
+    L: Language,
+    C: Fn(&mut L, Place, L::Function, Vec<Argument<'_, L::Value>>) -> Result<L::Value, L::Failure>,
+>(
     alloc: Global,
     language: &mut L,
+    call: &C,
     takes: bool,
     after: u32,
     args: &'a [Arg],
 ) -> Result<Vec<Argument<'a, L::Value>>, L::Failure>
+    requires asks { (s : MutBor L) (p : Place) (f : L.Function) (args : _) → L.senses.ready s.now p.number → ArgumentsFit (L.senses.fits s.now) args.items → C.pre call.now s p f args }
+    requires gives { (s t : MutBor L) (p : Place) (f : L.Function) (args : _) (r : Result L.Value L.Failure) → L.senses.ready s.now p.number → ArgumentsFit (L.senses.fits s.now) args.items → C.post call.now s p f args r t → CallDoes L.senses p.number p.line f args.items s.now t.now r }
     requires done { L.senses.done language.old after }
     requires order { ArgsAreInOrder L.senses.follows after (args_of (map arg_of args.now)) }
     ensures does { Does L.senses (λ s args. ArgumentsFit (L.senses.fits s) args.items) (λ i args. map (argument_seen (L.senses.shown i)) args.items) (λ i s. arguments (L.senses.defined i) (args_of (map arg_of args.now)) takes s) language.old language.new result }
     ensures done { IfOk result (λ _. L.senses.done language.new (last_number after (args_of (map arg_of args.now)))) }
+    ensures still { calls_none_in L.senses.opens (args_of (map arg_of args.now)) ≡ true → L.senses.still language.old language.new }
 {
     let mut arguments = Vec::new(alloc);
     let mut last = after;
     for arg in args {
-        let value = argument(alloc, language, takes, last, arg)?;
+        let value = argument(alloc, language, call, takes, last, arg)?;
         if !added(&mut arguments, value) {
             return Err(language.out_of_memory());
         }

@@ -40,7 +40,7 @@ agrees_at line want (Err f) u h = λ stop is. let x = h stop is in ap (λ w. ans
 
 pub answered_does : (line : ℕ) (want : Result Held Refusal) (s : Scope) (r : Result LocalValue Failure) → AnswersAt line want r
     → DoesValue scope_senses (λ i u. answered line u want) s s r
-answered_does line want s r h = record { later = refl; fits = any_ok r; agrees = λ i holds. agrees_at line want r (scope_state s) h; blames = any_err r }
+answered_does line want s r h = record { later = refl; fits = any_ok r; agrees = λ i holds. agrees_at line want r (scope_state s) h; blames = any_err r; unfinished = λ i holds e same none. tt }
 
 pub answered_finds : (line : ℕ) (want : Result Held Refusal) (s : Scope) (r : Result LocalValue Failure) → AnswersAt line want r
     → Finds scope_senses (λ i u. answered line u want) s r
@@ -75,6 +75,7 @@ module _ (line : ℕ) (args : List (Argument Held)) (s : Scope) where
         (sym (ap (λ b. if b then next_value line (slice_get key_values s.given) (scope_state s) else answered line (scope_state s) (Err bad_argument)) e))
         (agrees_at line (Err bad_argument) r (scope_state s) h);
     blames = any_err r;
+    unfinished = λ i holds e same none. tt;
   }
 
   pub none_left : (f : Failure) → is_only_iterator args ≡ true → length s.values.now.cells ≤ s.given → stop_of f ≡ Some (stop_at line no_value_left)
@@ -88,6 +89,7 @@ module _ (line : ℕ) (args : List (Argument Held)) (s : Scope) where
         ∙ ap (λ c. next_value line c (scope_state s)) (ap (λ xs. slice_get xs s.given) (sym holds) ∙ slice_get_past s.values.now.cells s.given past)
         ∙ ap (λ z. stops z (scope_state s)) (some_is (stop_at line no_value_left) stop (sym named ∙ is));
     blames = tt;
+    unfinished = λ i holds e same none. tt;
   }
 
   pub next_given : (t : Scope) (r : Result LocalValue Failure) (c : Seen) → is_only_iterator args ≡ true → t ≡ record s { given = s.given + 1 } → slice_get s.values.now.cells s.given ≡ Some c
@@ -100,6 +102,7 @@ module _ (line : ℕ) (args : List (Argument Held)) (s : Scope) where
     agrees = λ key_values holds.
         given_is r h key_values (sym (ap (λ (x : Scope). x.values.now.cells) is) ∙ holds);
     blames = any_err r;
+    unfinished = λ i holds e same none. tt;
   } where
     given_is : (r : Result LocalValue Failure) → AnswersAt line (Ok (value (scalar c))) r → (key_values : List Seen) → s.values.now.cells ≡ key_values
         → Agrees {W = LocalValue} held_seen stop_of (if is_only_iterator args then next_value line (slice_get key_values s.given) (scope_state s) else answered line (scope_state s) (Err bad_argument)) r (scope_state t)
@@ -137,6 +140,7 @@ module _ (line : ℕ) (args : List (Argument Held)) (s : Scope) (r : Result Loca
     agrees = λ key_values holds.
         subst (λ w. Agrees {W = LocalValue} held_seen stop_of w r (scope_state s)) (either key_values holds (is_only_iterator args)) (agrees_at line (has_next s.values.now.cells s.given args) r (scope_state s) h);
     blames = any_err r;
+    unfinished = λ i holds e same none. tt;
   } where
     either : (key_values : List Seen) → s.values.now.cells ≡ key_values → (b : Bool)
         → answered line (scope_state s) (if b then tall_held (value (scalar (logical (nat_lt s.given (length s.values.now.cells))))) else Err bad_argument)

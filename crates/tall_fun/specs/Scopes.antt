@@ -1,7 +1,8 @@
 -- What the definitions see of a scope, in which an expression of a function is evaluated.
-use Rattle.std.specs.Prelude.{ℕ, ◌≡◌, List, length, nat_lt, if◌then◌else◌, Result, Ok, Err}
+use Rattle.std.specs.Prelude.{ℕ, ◌≡◌, List, length, false, nat_lt, if◌then◌else◌, Result, Ok, Err}
 use Rattle.tall_value.specs.Cells.{Seen, logical}
 use Rattle.tall_local.specs.declared.functions.LocalFunction.{LocalFunction}
+use Rattle.tall_local.specs.Functions.{local_function_named}
 use Rattle.tall_local.specs.Locals.{Held, value, Locals, function_language, is_only_iterator}
 use Rattle.tall_local.specs.Arguments.{Argument}
 use Rattle.tall_local.specs.Memory.{scalar}
@@ -32,6 +33,11 @@ scope_senses = record {
   follows = λ m n. Unit {0};
   ready = λ s n. Unit {0};
   done = λ s n. Unit {0};
+  reaches = λ s t. Unit {0};
+  functions = local_function_named;
+  opens = λ name. false;
+  opens_by = λ f. false;
+  still = λ s t. Unit {0};
 }
 
 -- `hasnext`: a value is left
@@ -47,4 +53,9 @@ scope_laws = record {
   blames_before = λ s t u e h k. tt;
   ready_done = λ s n h. tt;
   done_ready = λ s n k h f. tt;
+  reaches_on = record { nothing = λ s. tt; both = λ s t u h k. tt };
+  calls_reach = λ i n l f args s. tt;
+  functions_are = λ i name. refl;
+  opens_named = λ name f h k. refl;
+  still_on = record { nothing = λ s. tt; both = λ s t u h k. tt };
 }

@@ -3,11 +3,12 @@ ghost use Rattle.std.specs.Prelude.{◌≡◌, Ok, true};
 ghost use Rattle.tall_grammar.specs.Views.{tree_of};
 ghost use Rattle.std.specs.Option.{is_some};
 ghost use Rattle.tall_local.specs.Calls.{local_value};
-ghost use Rattle.tall_local.specs.Expressions.{Valued};
-ghost use Rattle.tall_local.specs.Locals.{Held, Locals, memory_of};
-ghost use Rattle.tall_evaluate.specs.Senses.{Agrees};
+ghost use Rattle.tall_local.specs.Expressions.{Valued, value};
+ghost use Rattle.tall_local.specs.Locals.{Held, Locals, function_language, memory_of};
+ghost use Rattle.tall_evaluate.specs.Senses.{Agrees, CallDoes, DoesValue};
 ghost use Rattle.tall_fun.specs.Failures.{stop_of};
 ghost use Rattle.tall_fun.specs.Frames.{frame_state};
+ghost use Rattle.tall_fun.specs.Scopes.{scope_senses};
 ghost use Rattle.tall_fun.specs.Values.{GivesHeld, held_seen};
 
 use crate::failures::{Failure, no_memory};
@@ -17,9 +18,10 @@ use crate::turns::Turns;
 use crate::values::{LocalValue, copied, kept};
 use std::alloc::Global;
 use tall_column::Column;
-use tall_evaluate::evaluate;
+use tall_evaluate::{Argument, Place, evaluate};
 use tall_grammar::Expr;
 use tall_kv::Pairs;
+use tall_local::LocalFunction;
 use tall_memory::MemoryFault;
 
 /// The names of a call, how many values its iterator has given, the turns of loops that began, and the store.
@@ -75,6 +77,23 @@ fn owned_answer<'b>(
 }
 
 #[tactic(auto, using(crate::proofs::FrameLemmas::any_order))]
+/// The value of an expression in a scope.
+fn evaluated<'n>(scope: &mut Scope<'n>, e: &Expr) -> Result<LocalValue<'n>, Failure>
+    ensures { DoesValue scope_senses (λ key_values s. value (function_language key_values) (tree_of e.now) s) scope.old scope.new result }
+{
+    let alloc = scope.alloc;
+    evaluate(
+        alloc,
+        scope,
+        &|scope: &mut Scope<'_>, place: Place, function: LocalFunction, arguments: Vec<
+            Argument<'_, LocalValue<'_>>,
+        >| -> Result<LocalValue<'_>, Failure>
+            ensures { CallDoes scope_senses place.number place.line function arguments.entry.items scope.old scope.new result }
+        { scope.call(place, function, arguments) },
+        e,
+    )
+}
+
 /// The value of an expression over the values of the iterator, kept: it borrows nothing of the names.
 pub(crate) fn value_of<'b>(
     values: &Column,
@@ -91,7 +110,7 @@ pub(crate) fn value_of<'b>(
         turns: frame.turns.count(),
         pairs: &frame.store,
     };
-    let answer = owned_answer(frame.alloc, evaluate(frame.alloc, &mut scope, e));
+    let answer = owned_answer(frame.alloc, evaluated(&mut scope, e));
     let given = scope.given;
     frame.given = given;
     answer

@@ -5,7 +5,7 @@ ghost use Rattle.tall_local.specs.Names.{named};
 ghost use Rattle.tall_local.specs.Locals.{held_call, held_index};
 ghost use Rattle.tall_local.specs.Expressions.{answered};
 ghost use Rattle.tall_local.specs.declared.functions.LocalFunction.TheVariants.{Elsewhere, GetNext, HasNext, OfValues};
-ghost use Rattle.tall_evaluate.specs.Senses.{DoesValue, argument_seen};
+ghost use Rattle.tall_evaluate.specs.Senses.{CallDoes, DoesValue, argument_seen};
 ghost use Rattle.tall_fun.specs.Scopes.{has_next, scope_senses};
 ghost use Rattle.tall_fun.specs.Values.{GivesHeld, held_seen};
 
@@ -146,6 +146,24 @@ impl<'n> Scope<'n> {
         self.given += 1;
         value
     }
+
+    /// A call of a function.
+    pub(crate) fn call(
+        &mut self,
+        place: Place,
+        function: LocalFunction,
+        arguments: Vec<Argument<'_, LocalValue<'n>>>,
+    ) -> Result<LocalValue<'n>, Failure>
+        ensures { CallDoes scope_senses place.number place.line function arguments.entry.items self.old self.new result }
+    {
+        let args = arguments.as_slice();
+        match function {
+            LocalFunction::OfValues(f) => self.call_value_function(place.line, f, args),
+            LocalFunction::HasNext => self.call_has_next(place.line, args),
+            LocalFunction::GetNext => self.get_next(place.line, args),
+            LocalFunction::Elsewhere => self.refuse_elsewhere(place.line, args),
+        }
+    }
 }
 
 impl<'n> Language for Scope<'n> {
@@ -257,29 +275,12 @@ impl<'n> Language for Scope<'n> {
     ) -> Result<LocalValue<'n>, Failure>
         ensures does { DoesValue scope_senses (λ key_values s. answered place.line s (held_index (held_seen whole.entry) (map (argument_seen held_seen) arguments.entry.items))) self.old self.new result }
         ensures done { IfOk result (λ _. Unit {0}) }
+        ensures still { Unit {0} }
     {
         at_line(
             place.line,
             indexed(self.alloc, &whole, arguments.as_slice()),
         )
-    }
-
-    fn call(
-        &mut self,
-        place: Place,
-        function: LocalFunction,
-        arguments: Vec<Argument<'_, LocalValue<'n>>>,
-    ) -> Result<LocalValue<'n>, Failure>
-        ensures does { DoesValue scope_senses (λ key_values s. held_call key_values place.line function (map (argument_seen held_seen) arguments.entry.items) s) self.old self.new result }
-        ensures done { IfOk result (λ _. Unit {0}) }
-    {
-        let args = arguments.as_slice();
-        match function {
-            LocalFunction::OfValues(f) => self.call_value_function(place.line, f, args),
-            LocalFunction::HasNext => self.call_has_next(place.line, args),
-            LocalFunction::GetNext => self.get_next(place.line, args),
-            LocalFunction::Elsewhere => self.refuse_elsewhere(place.line, args),
-        }
     }
 
     ghost laws = { scope_laws };

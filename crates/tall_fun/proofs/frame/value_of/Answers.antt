@@ -9,6 +9,6 @@ use Rattle.tall_fun.proofs.frame.value_of.Goals as goal
 pub returns : goal.returns
 returns c =
     let s : Locals = frame_state c.args.frame.now in
-    c.owned_answer-answer.ensures (local_value c.args.values.now.cells (tree_of c.args.e.now) s) (record s { given = c.evaluate.new.language.given })
-    (evaluated_by c.args.values.now.cells (tree_of c.args.e.now) s _ c.evaluate.new.language c.evaluate.result
-    (ap (λ n. record s { turns = n }) c.count.ensures) refl c.evaluate.ensures.does)
+    c.owned_answer-answer.ensures (local_value c.args.values.now.cells (tree_of c.args.e.now) s) (record s { given = c.evaluated.new.scope.given })
+    (evaluated_by c.args.values.now.cells (tree_of c.args.e.now) s _ c.evaluated.new.scope c.evaluated.result
+    (ap (λ n. record s { turns = n }) c.count.ensures) refl c.evaluated.ensures)
