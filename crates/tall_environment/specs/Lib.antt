@@ -1,0 +1,10 @@
+pub mod Environments
+pub mod Failures
+pub mod Moves
+pub mod Values
+pub mod Computations
+pub mod Expressions
+pub mod NumberLaws
+pub mod StoreLaws
+pub mod MoveLaws
+pub mod EvaluationLaws
