@@ -1,0 +1,16 @@
+mod GatherAnswers
+mod GatherColumns
+mod GatherFailureLaws
+mod GatherLists
+mod GatherOpenings
+mod GatherStores
+mod GatherTells
+mod GatheredLaws
+mod ReadingLaws
+mod WatchLaws
+mod OpenedLaws
+mod MakeLaws
+mod SingleLaws
+mod ReducedArguments
+mod ReductionLaws
+mod ReductionFaults

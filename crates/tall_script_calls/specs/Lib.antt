@@ -1,0 +1,7 @@
+pub mod GatherFailures
+pub mod GatheredValues
+pub mod ReadingFailures
+pub mod Watching
+pub mod Making
+pub mod Single
+pub mod Reductions
