@@ -1,0 +1,4 @@
+mod NameLaws
+mod AnswerLaws
+mod ArgumentLaws
+mod GivenLaws

@@ -1,0 +1,4 @@
+pub mod Names
+pub mod Evaluations
+pub mod CallLaws
+pub mod SenseLaws
