@@ -1,0 +1,5 @@
+pub mod TextLaws
+mod Naming
+mod EndLaws
+mod PropertyLaws
+mod RunLaws
