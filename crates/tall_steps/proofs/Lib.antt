@@ -1,0 +1,4 @@
+mod Writing
+pub mod Progressing
+mod Numbering
+mod StatementSteps
