@@ -1,0 +1,6 @@
+mod Reading
+mod Verdicts
+mod Closing
+mod Evaluating
+mod Promising
+mod DemoSize
