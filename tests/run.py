@@ -14,12 +14,12 @@ script reads:
                workers; the answer may not change
     make.py    a program that writes data files; it is run first
 
-tests/pending names the cases, one a line, that the program can't pass yet though it doesn't say that it is not built; each
-is run all the same, and one that passes fails the suite until its name is taken off the list.
+tests/pending names the cases, one a line, that the program can't pass yet; each is run all the same, and one that passes
+fails the suite until its name is taken off the list.
 
 A case runs in a copy of its folder, without the files of this list but the script. It passes where the bytes of both
-outputs and the status are the expected ones. It is skipped where something else is expected and the program answers that
-it is not built yet. Each difference is printed; the last line counts the cases, and the status is 1 where one failed.
+outputs and the status are the expected ones. Each difference is printed; the last line counts the cases, and the status is
+1 where one failed.
 """
 
 import argparse
@@ -36,7 +36,6 @@ NOT_DATA = {"length", "words", "stdout", "stderr", "status", "vary"}
 READ_SIZES = ["1", "2", "3", "7", "20000"]
 WORKERS = ["1", "2", "4", "8"]
 PENDING = pathlib.Path(__file__).resolve().parent / "pending"
-NOT_BUILT = b"tallrun: not built\n"
 SECONDS = 60
 
 
@@ -74,7 +73,7 @@ class Case:
 
 
 def run_once(program, case, size, words):
-    """Runs one variant in a copy of the folder; answers the differences, and whether the program isn't built so far."""
+    """Runs one variant in a copy of the folder; answers the differences."""
     with tempfile.TemporaryDirectory() as place:
         for source in case.folder.iterdir():
             if source.is_file() and source.name not in NOT_DATA:
@@ -89,13 +88,12 @@ def run_once(program, case, size, words):
             done = subprocess.run([program, *words], cwd=place, capture_output=True, stdin=subprocess.DEVNULL,
                                   timeout=SECONDS)
         except subprocess.TimeoutExpired:
-            return [f"no end within {SECONDS} seconds"], False
-    differences = [f"{name}: expected {expected!r}, came {came!r}" for name, expected, came in [
+            return [f"no end within {SECONDS} seconds"]
+    return [f"{name}: expected {expected!r}, came {came!r}" for name, expected, came in [
         ("stdout", case.stdout, done.stdout),
         ("stderr", case.stderr, done.stderr),
         ("status", case.status, done.returncode),
     ] if expected != came]
-    return differences, bool(differences) and done.stderr == NOT_BUILT
 
 
 def run_case(program, folder, pending):
@@ -105,23 +103,19 @@ def run_case(program, folder, pending):
         return outcome, lines
     if outcome == "passed":
         return "failed", [f"{folder.name}: passes, and stands in tests/pending"]
-    return "skipped", []
+    return "pending", []
 
 
 def compare(program, folder):
-    """Answers how a case ends, passed, failed or skipped, and the lines that tell the differences."""
+    """Answers how a case ends, passed or failed, and the lines that tell the differences."""
     case = Case(folder)
-    outcome = "passed"
     for size, words in case.variants():
-        differences, not_built = run_once(program, case, size, words)
-        if not_built:
-            outcome = "skipped"
-            break
+        differences = run_once(program, case, size, words)
         if differences:
             with_size = "" if size is None else f" with {size} for READSIZE"
             head = f"{folder.name}: {' '.join(words)}{with_size}"
             return "failed", [head] + ["    " + line for line in differences]
-    return outcome, []
+    return "passed", []
 
 
 def main():
@@ -136,13 +130,13 @@ def main():
     program = str(pathlib.Path(program).resolve())
     folders = sorted(path for root in SUITE for path in root.iterdir() if path.is_dir() and options.only in path.name)
     pending = set(PENDING.read_text().split()) if PENDING.exists() else set()
-    counts = {"passed": 0, "failed": 0, "skipped": 0}
+    counts = {"passed": 0, "failed": 0, "pending": 0}
     with concurrent.futures.ThreadPoolExecutor(max(1, options.jobs)) as pool:
         for outcome, lines in pool.map(lambda folder: run_case(program, folder, pending), folders):
             counts[outcome] += 1
             for line in lines:
                 print(line)
-    print(f"{counts['passed']} passed, {counts['failed']} failed, {counts['skipped']} skipped")
+    print(f"{counts['passed']} passed, {counts['failed']} failed, {counts['pending']} pending")
     return 1 if counts["failed"] else 0
 
 

@@ -5,7 +5,7 @@
 use std::process::ExitCode;
 use std::{env, io};
 use tall_outside::{HostShelf, HostSink, OpenGate};
-use tall_session::run;
+use tall_run::run;
 
 /// The words of the command line, the program's name first.
 fn words(rt: &HostRuntime) -> io::Result<Vec<String>> {
