@@ -53,7 +53,7 @@ JOBS = {
         PAIRS,
         "[first, second] = gather(sum(T.x), sum(T.y))",
         {
-            "mawk": 'NR > 1 { a += $1; b += $2 } END { printf "%d %d\\n", a, b }',
+            "mawk": 'NR > 1 { a += $1; b += $2 } END { printf "%.0f %.0f\\n", a, b }',
             "mlr": "stats1 -a sum -f x,y",
             "datamash": "sum 1 sum 2",
             "pandas": "print(t.x.sum(), t.y.sum())",
@@ -64,7 +64,7 @@ JOBS = {
         PAIRS,
         "U = T(T.x > 0, :);\n[first, second] = gather(sum(U.x), sum(U.y))",
         {
-            "mawk": 'NR > 1 && $1 > 0 { a += $1; b += $2 } END { printf "%d %d\\n", a, b }',
+            "mawk": 'NR > 1 && $1 > 0 { a += $1; b += $2 } END { printf "%.0f %.0f\\n", a, b }',
             "mlr": "filter '$x > 0' then stats1 -a sum -f x,y",
             "pandas": "u = t[t.x > 0]; print(u.x.sum(), u.y.sum())",
             "octave": "printf('%d %d\\n', sum(t(t(:, 1) > 0, :)))",
@@ -79,7 +79,7 @@ JOBS = {
             "mawk": "NR > 1 { x = $1; y = $2; p = x + 1; a += p > 32767 ? 32767 : p; b += x - y; c += x * 2; d += y < 0 ? -y : y; "
             "e += x > y; f += x == 5; q = x * 3; g += q > 32767 ? 32767 : q < -32768 ? -32768 : q; h += x > 5 && x < y; "
             "m = x % 7; k += m < 0 ? m + 7 : m; l -= y } "
-            'END { printf "%d %d %d %d %d %d %d %d %d %d\\n", a, b, c, d, e, f, g, h, k, l }',
+            'END { printf "%.0f %.0f %.0f %.0f %.0f %.0f %.0f %.0f %.0f %.0f\\n", a, b, c, d, e, f, g, h, k, l }',
             "pandas": "x = t.x; y = t.y; print((x + 1).clip(-32768, 32767).sum(), (x - y).sum(), (x * 2).sum(), y.abs().sum(), "
             "(x > y).sum(), (x == 5).sum(), (x * 3).clip(-32768, 32767).sum(), ((x > 5) & (x < y)).sum(), (x % 7).sum(), (-y).sum())",
             "octave": "x = t(:, 1); y = t(:, 2); printf('%d\\n', sum(min(x + 1, 32767)), sum(x - y), sum(x * 2), sum(abs(y)), "
@@ -90,7 +90,7 @@ JOBS = {
         PAIRS,
         "x = double(T.x);\nd = gather(sum(x - max(x)))",
         {
-            "mawk": 'FNR == 1 { next } NR == FNR { if (NR == 2 || $1 > m) m = $1; next } { s += $1 - m } END { printf "%d\\n", s }',
+            "mawk": 'FNR == 1 { next } NR == FNR { if (NR == 2 || $1 > m) m = $1; next } { s += $1 - m } END { printf "%.0f\\n", s }',
             "pandas": "print((t.x - t.x.max()).sum())",
             "octave": "x = t(:, 1); printf('%d\\n', sum(x - max(x)))",
         },
@@ -99,7 +99,7 @@ JOBS = {
         PAIRS,
         "last = gather(tail(cumsum(double(T.x)), 3))",
         {
-            "mawk": 'NR > 1 { s += $1; a = b; b = c; c = s } END { printf "%d %d %d\\n", a, b, c }',
+            "mawk": 'NR > 1 { s += $1; a = b; b = c; c = s } END { printf "%.0f %.0f %.0f\\n", a, b, c }',
             "mlr": "step -a rsum -f x then tail -n 3 then cut -f x_rsum",
             "pandas": "print(*t.x.cumsum().tail(3))",
             "octave": "s = cumsum(t(:, 1)); printf('%d\\n', s(end - 2 : end))",
@@ -110,7 +110,7 @@ JOBS = {
         "u = unique(T.x);\n[n, first] = gather(numel(u), head(u, 2))",
         {
             "mawk": "NR > 1 && !($1 in seen) { seen[$1]; n++; v = $1 + 0; if (n == 1 || v < a) { b = a; a = v } "
-            'else if (n == 2 || v < b) b = v } END { printf "%d %d %d\\n", n, a, b }',
+            'else if (n == 2 || v < b) b = v } END { printf "%.0f %.0f %.0f\\n", n, a, b }',
             "pandas": "u = sorted(t.x.unique()); print(len(u), *u[:2])",
             "octave": "u = unique(t(:, 1)); printf('%d\\n', numel(u), u(1 : 2))",
         },
@@ -130,7 +130,7 @@ for keys in (5, 1_000, 1_000_000):
         "G = groupsummary(T, 'k', 'sum', 'x');\n[groups, s, low, high] = gather(height(G), sum(G.sum_x), min(G.sum_x), max(G.sum_x))",
         {
             "mawk": "NR > 1 { s[$1] += $2 } END { for (k in s) { n++; t += s[k]; if (n == 1 || s[k] < a) a = s[k]; "
-            'if (n == 1 || s[k] > b) b = s[k] } printf "%d %d %d %d\\n", n, t, a, b }',
+            'if (n == 1 || s[k] > b) b = s[k] } printf "%.0f %.0f %.0f %.0f\\n", n, t, a, b }',
             "mlr": "stats1 -a sum -f x -g k then stats1 -a count,sum,min,max -f x_sum",
             "pandas": "s = t.groupby('k').x.sum(); print(len(s), s.sum(), s.min(), s.max())",
             "octave": "s = accumarray(t(:, 1) + 1, t(:, 2)); u = accumarray(t(:, 1) + 1, 1); s = s(u > 0); "
