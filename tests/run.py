@@ -10,8 +10,9 @@ script reads:
     stdout     the bytes that the program has to write; none where there is no such file
     stderr     the same, for the standard error
     status     the status with which it has to end; 0 where there is no such file
-    vary       empty: the case is run once with each number in place of READSIZE in the script, and with each number of
-               workers; the answer may not change
+    vary       the case is run once with each number in place of READSIZE in the script, and with each number of workers,
+               or of those in this file where it isn't empty; the answer may not change
+    full       empty: the standard output is a device that takes no byte
     make.py    a program that writes data files; it is run first
 
 tests/pending names the cases, one a line, that the program can't pass yet; each is run all the same, and one that passes
@@ -32,7 +33,8 @@ import tempfile
 
 ROOT = pathlib.Path(__file__).resolve().parents[1]
 SUITE = [ROOT / "tests" / "scripts", ROOT / "examples"]
-NOT_DATA = {"length", "words", "stdout", "stderr", "status", "vary"}
+NOT_DATA = {"length", "words", "stdout", "stderr", "status", "vary", "full"}
+FULL = "/dev/full"
 READ_SIZES = ["1", "2", "3", "7", "20000"]
 WORKERS = ["1", "2", "4", "8"]
 PENDING = pathlib.Path(__file__).resolve().parent / "pending"
@@ -51,6 +53,8 @@ class Case:
         self.status = int(self.content("status") or b"0")
         self.length = int(self.content("length") or b"0")
         self.varies = (folder / "vary").exists()
+        self.workers = self.content("vary").decode().split() or WORKERS
+        self.full = (folder / "full").exists()
 
     def content(self, name):
         path = self.folder / name
@@ -68,7 +72,7 @@ class Case:
         if not self.varies:
             return [(None, self.words)]
         sizes = READ_SIZES if b"READSIZE" in self.content(self.script) else [None]
-        workers = [[]] + [["--workers", n] for n in WORKERS]
+        workers = [[]] + [["--workers", n] for n in self.workers]
         return [(size, some + self.words) for size in sizes for some in workers]
 
 
@@ -85,15 +89,21 @@ def run_once(program, case, size, words):
             text = script.read_bytes() if size is None else script.read_bytes().replace(b"READSIZE", size.encode())
             script.write_bytes(text.ljust(case.length))
         try:
-            done = subprocess.run([program, *words], cwd=place, capture_output=True, stdin=subprocess.DEVNULL,
-                                  timeout=SECONDS)
+            done = run_program([program, *words], place, case.full)
         except subprocess.TimeoutExpired:
             return [f"no end within {SECONDS} seconds"]
     return [f"{name}: expected {expected!r}, came {came!r}" for name, expected, came in [
-        ("stdout", case.stdout, done.stdout),
+        ("stdout", case.stdout, done.stdout or b""),
         ("stderr", case.stderr, done.stderr),
         ("status", case.status, done.returncode),
     ] if expected != came]
+
+
+def run_program(words, place, full):
+    """Runs the program in a folder; its outputs are kept, but for a standard output that takes no byte."""
+    with open(FULL, "wb") as sink:
+        return subprocess.run(words, cwd=place, stdin=subprocess.DEVNULL, stdout=sink if full else subprocess.PIPE,
+                              stderr=subprocess.PIPE, timeout=SECONDS)
 
 
 def run_case(program, folder, pending):

@@ -1,0 +1,12 @@
+ds = tabularTextDatastore('a.csv', 'TextscanFormats', {'%f'}, 'ReadSize', READSIZE);
+T = tall(ds);
+a = T.x - min(T.x);
+b = a - max(a);
+c = b - sum(b);
+d = c - min(c);
+e = d .* max(d);
+f = e - sum(e);
+g = cumsum(f);
+h = g - min(g);
+k = sum(h .* h);
+[h, k] = gather(h, k)

@@ -1,0 +1,3 @@
+import pathlib
+
+pathlib.Path("b.csv").mkdir()

@@ -1,0 +1,2 @@
+x = 1
+ds = tabularTextDatastore('a.csv');

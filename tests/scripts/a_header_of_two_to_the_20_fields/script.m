@@ -1,0 +1,3 @@
+ds = tabularTextDatastore('a.csv');
+T = tall(ds);
+v = gather(T.x)

@@ -1,0 +1,3 @@
+ds = tabularTextDatastore('a.csv', 'TextscanFormats', {'%f', '%d8', '%q'}, 'ReadSize', READSIZE);
+T = tall(ds);
+y = T.x(T.x > 2) - T.x(2 < T.x);

@@ -1,0 +1,7 @@
+a = mod(5, 0)
+b = mod(-7, 0)
+c = mod(NaN, 0)
+d = mod(5, NaN)
+e = mod(int8(5), 0)
+f = mod(int8(5), NaN)
+g = mod(true, 0)

@@ -1,0 +1,13 @@
+a = int8(-128) ./ int8(-1)
+b = intmax('int64') + 1
+c = uint8(5) / 2
+d = mod(int8(-7), int8(3))
+e = intmin('int64') - 1
+f = intmax('uint64') + 1
+g = int8(-5) ./ int8(2)
+h = idivide(int8(-5), int8(2))
+i = int8(0) ./ int8(0)
+j = bitor(int8(-6), int8(3))
+k = bitand(uint8(7), -1)
+l = bitxor(uint8(5), NaN)
+m = bitand(int8(-1), 1000)

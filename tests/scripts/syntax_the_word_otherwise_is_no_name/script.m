@@ -1,0 +1,2 @@
+x = 1
+otherwise = 2

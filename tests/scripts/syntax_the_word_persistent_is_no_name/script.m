@@ -1,0 +1,2 @@
+x = 1
+persistent = 2
