@@ -1,23 +1,21 @@
 -- What a pass answers, from its walk and from what its sums come to.
-use Rattle.std.proofs.Common.{ℕ, ◌≡◌, ◌∙◌, List, [], ◌∷◌, Ok, Err, sym, ap, subst, refl, length}
-use Rattle.std.specs.Prelude.{Option, Some, None, option_map}
+use Rattle.std.proofs.Common.{ℕ, ◌≡◌, ◌∙◌, List, [], ◌∷◌, Err, sym, subst, refl, length}
+use Rattle.std.specs.Prelude.{Option, None, option_map}
 use Rattle.tall_outside.specs.Shelf.{Files}
-use Rattle.tall_value.specs.Cells.{Seen}
 use Rattle.tall_semantics.specs.Faults.{Fault, fault_seen}
 use Rattle.tall_semantics.specs.Talls.{Columns, Tall}
-use Rattle.tall_semantics.specs.Deferred.{IsAmong, Vertex}
+use Rattle.tall_semantics.specs.Deferred.{Vertex}
 use Rattle.tall_semantics.specs.Numbered.{AreNumbered}
 use Rattle.tall_semantics.specs.ShapesInOrder.{IsMade}
 use Rattle.tall_store.specs.Blocks as store
 use Rattle.tall_store.specs.Stored.{first_fault}
 use Rattle.tall_store.specs.Stores.{IsStore, SeenStore}
 use Rattle.tall_stored.specs.StoredColumns.{Store}
-use Rattle.tall_fuse.specs.Kept.{carry}
 use Rattle.tall_fuse.specs.declared.known.Known.{Known}
 use Rattle.tall_plan.specs.declared.passes.Pass.{Pass}
 use Rattle.tall_piece.specs.declared.sums.Sums.{Sums}
 use Rattle.tall_piece.specs.declared.wanted.Wanted.{Wanted}
-use Rattle.tall_piece.specs.Passes.{PassOver, carry_of, outcomes}
+use Rattle.tall_piece.specs.Passes.{PassOver, outcomes}
 use Rattle.tall_piece.specs.Pieces.{AreSums}
 use Rattle.tall_walk.specs.Walked as walk
 use Rattle.tall_pass.specs.declared.faults.PassFault.{PassFault}

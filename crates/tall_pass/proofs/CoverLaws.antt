@@ -1,8 +1,7 @@
 -- What is wanted of a pass are its results and the carries that come with it.
-use Rattle.std.specs.Prelude.{◌≡◌, ◌↔◌, ◌⊎◌, ◌==◌, ◌&&◌, ℕ, true, Option, None, Some, List, [], ◌∷◌}
-use Rattle.std.proofs.Common.{ap, sym, subst, inl, inr}
+use Rattle.std.specs.Prelude.{◌≡◌, ◌↔◌, ◌==◌, ◌&&◌, ℕ, true, Option, None, Some, List, [], ◌∷◌}
+use Rattle.std.proofs.Common.{ap, subst, inl, inr}
 use Rattle.std.proofs.lemmas.Bool.{eqb-true}
-use Rattle.std.specs.List.{filter}
 use Rattle.tall_semantics.specs.Spaces.{store_of}
 use Rattle.tall_semantics.specs.Shapes.{level}
 use Rattle.tall_semantics.specs.ShapesInOrder.{shape_at}
@@ -15,7 +14,7 @@ use Rattle.tall_piece.specs.declared.wanted.Way.{Way}
 use Rattle.tall_piece.specs.declared.wanted.Way.TheVariants as way
 use Rattle.tall_piece.specs.Passes.{IsEndWay}
 use Rattle.tall_plan.specs.declared.passes.Pass.{Pass}
-use Rattle.tall_pass.specs.PassPlans.{IsCarried, IsPassBelow, IsResult, IsSmall, is_below_at}
+use Rattle.tall_pass.specs.PassPlans.{IsCarried, IsResult, is_below_at}
 use Rattle.tall_pass.specs.Finished.{AreCarriesWanted, AreOfStores, Covers, IsOfStore, IsResultWanted, IsResultWay}
 use Rattle.tall_pass.specs.Finished as finished
 use Rattle.tall_pass.specs.Work.{AreAllWanted, AreWantedFor, HasWanted, IsCarriesWay, IsOfPlan, IsRowsWay, IsWantedFor}

@@ -2,13 +2,12 @@
 use Rattle.std.proofs.Common.{ℕ, zero, suc, ◌≡◌, ◌∙◌, ◌<◌, ◌≤◌, ◌+◌, ◌^◌, List, [], ◌∷◌, ◌++◌, sym, ap, subst, refl, arith, length}
 use Rattle.std.specs.Prelude.{Option, Some, None, option_map, slice_get}
 use Rattle.std.specs.Option.{option_or}
-use Rattle.std.proofs.lemmas.List.{append-nil, append_assoc, length-append}
+use Rattle.std.proofs.lemmas.List.{append-nil, append_assoc}
 use Rattle.tall_semantics.specs.Faults.{fault_seen}
 use Rattle.tall_semantics.specs.Outcomes.{Outcome}
 use Rattle.tall_semantics.specs.Deferred.{Vertex}
 use Rattle.tall_semantics.specs.ShapesInOrder.{IsMade}
 use Rattle.tall_store.specs.Blocks.{Block, first_block_fault, first_in_blocks}
-use Rattle.tall_store.specs.Stores.{SeenStore}
 use Rattle.tall_store.specs.declared.faults.ReadingFault.{ReadingFault}
 use Rattle.tall_piece.specs.declared.pieces.Piece.{Piece}
 use Rattle.tall_piece.specs.declared.pieces.Piece.TheVariants as piece

@@ -13,3 +13,5 @@ pub mod FinishedLaws
 pub mod ToldLaws
 pub mod AnswerLaws
 pub mod CoverLaws
+pub mod TruncatedWays
+pub mod WindowLaws

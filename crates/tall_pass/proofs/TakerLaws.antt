@@ -1,20 +1,19 @@
 -- What a taker has behind a block or the end of a file more.
-use Rattle.std.proofs.Common.{ℕ, zero, suc, ◌≡◌, ◌≢◌, ◌∙◌, ◌<◌, ◌≤◌, ◌+◌, ◌^◌, inl, inr, List, [], ◌∷◌, ◌++◌, sym, ap, subst, refl, arith, length, map, get_or}
-use Rattle.std.specs.Prelude.{◌⊎◌, Option, Some, None, take}
-use Rattle.std.specs.Option.{option_or}
-use Rattle.std.proofs.lemmas.List.{append-nil, append_assoc, length-map, length-take-le, map-append, take_more}
-use Rattle.tall_cut.specs.Finding.{raw_count}
-use Rattle.tall_store.specs.Blocks.{Block, first_in_blocks}
+use Rattle.std.proofs.Common.{ℕ, ◌≡◌, ◌≢◌, ◌∙◌, ◌<◌, ◌≤◌, ◌^◌, inl, inr, List, [], ◌∷◌, ◌++◌, sym, ap, subst, refl, arith, length, map}
+use Rattle.std.specs.Prelude.{◌⊎◌, Option, Some, Result, Ok, Vec}
+use denote.Ref.{Bor}
+use Rattle.std.proofs.lemmas.List.{append-nil, append_assoc, map-append}
+use Rattle.tall_store.specs.Blocks.{Block}
 use Rattle.tall_store.specs.declared.file_rows.FileBlock.{FileBlock}
 use Rattle.tall_piece.specs.declared.pieces.Piece.{Piece}
-use Rattle.tall_piece.specs.Right.{IsRightPiece}
-use Rattle.tall_walk.specs.Events.{Event, a_block, an_end, block_of, blocks_in, first_in}
+use Rattle.tall_walk.specs.Events.{Event, a_block, an_end, block_of, blocks_in}
 use Rattle.tall_walk.proofs.Walks.{blocks_append}
 use Rattle.tall_pass.specs.declared.faults.PassFault.{PassFault}
 use Rattle.tall_pass.specs.declared.faults.PassFault.TheVariants.{Reading, Read, TooLarge, Changed, Memory}
 use Rattle.tall_pass.specs.declared.joining.Joined.{Joined}
 use Rattle.tall_pass.specs.Counts.{count_at}
-use Rattle.tall_pass.specs.Taken.{AreEnded, AreOfFiles, ArePieces, AreWaiting, EndsBlocks, HasJoined, HasStopped, HasTaken, Inputs, IsEndIn, IsJoining, IsNoted, IsOther, IsRight, IsWaiting, OfInputs}
+use Rattle.tall_pass.specs.Takers.{MakesPieces}
+use Rattle.tall_pass.specs.Taken.{AreEnded, AreOfFiles, ArePieces, AreWaiting, EndsBlocks, HasJoined, HasStopped, HasTaken, Inputs, IsEndIn, IsJoining, IsNoted, IsOther, IsWaiting, OfInputs}
 
 -- ---- one more in a list
 
@@ -22,29 +21,9 @@ pub waiting-snoc : (files : ℕ) (bs : List FileBlock) (b : FileBlock) → AreWa
 waiting-snoc files [] b w is = (is, tt)
 waiting-snoc files (c ∷ bs) b w is = (w.0, waiting-snoc files bs b w.1 is)
 
-pub waiting-at : (files : ℕ) (bs : List FileBlock) (i : ℕ) (b : FileBlock) → AreWaiting files bs → i < length bs → IsWaiting files (get_or bs i b)
-waiting-at files [] i b w l = absurd (omega (arith, l))
-waiting-at files (c ∷ bs) zero b w l = w.0
-waiting-at files (c ∷ bs) (suc i) b w l = waiting-at files bs i b w.1 (less i (length bs) l)
-  where
-    less : (m n : ℕ) → suc m < suc n → m < n
-    less m n l = omega arith
-
 of_files-snoc : (files : ℕ) (bs : List Block) (b : Block) → AreOfFiles files bs → b.file < files → AreOfFiles files (bs ++ b ∷ [])
 of_files-snoc files [] b o l = (l, tt)
 of_files-snoc files (c ∷ bs) b o l = (o.0, of_files-snoc files bs b o.1 l)
-
-pub pieces-snoc : (w : Inputs) (n m : ℕ) (bs : List Block) (ps : List Piece) (b : Block) (p : Piece) → ArePieces w n bs ps → m ≡ n + length bs → IsRight w m b p → ArePieces w n (bs ++ b ∷ []) (ps ++ p ∷ [])
-pieces-snoc w n m [] [] b p are e is = (subst (λ k. IsRight w k b p) (none m n e) is, tt)
-  where
-    none : (m n : ℕ) → m ≡ n + 0 → m ≡ n
-    none m n e = omega arith
-pieces-snoc w n m [] (q ∷ ps) b p are e is = absurd are
-pieces-snoc w n m (c ∷ bs) [] b p are e is = absurd are
-pieces-snoc w n m (c ∷ bs) (q ∷ ps) b p are e is = (are.0, pieces-snoc w (suc n) m bs ps b p are.1 (next m n (length bs) e) is)
-  where
-    next : (m n k : ℕ) → m ≡ n + suc k → m ≡ suc n + k
-    next m n k e = omega arith
 
 -- ---- ends of files among events
 
@@ -194,31 +173,15 @@ stops_at w counts before event (TooLarge file) h = h
 stops_at w counts before event (Changed file first now) h = absurd h
 stops_at w counts before event Memory h = tt
 
--- ---- the next piece of a window
+-- ---- the pieces of the blocks that wait
 
-some_records : (b : FileBlock) → 0 < raw_count b.raw → 0 < length (block_of b).records
-some_records b some = by (length (block_of b).records) (raw_count b.raw) b.raw.counted some
-  where
-    by : (l c : ℕ) → l ≡ c → 0 < c → 0 < l
-    by l c e s = omega (arith, e, s)
+module _ {Y E : Type 0} (w : Inputs) (asks : Bor (List FileBlock) → ℕ → Type 0) (gives : Bor (List FileBlock) → ℕ → Result (Vec Piece Y) E → Type 0) (first : List (Option ℕ)) (j : Joined) (waiting : List FileBlock)
+    (counts : List (Option ℕ)) (events : List Event) (blocks : Bor (List FileBlock)) (e : blocks.now ≡ waiting) (makes : MakesPieces w asks gives) (t : HasTaken w first j waiting counts events) where
+  pub may_be_made : asks blocks j.blocks
+  may_be_made = makes.may blocks j.blocks (subst (AreWaiting (length w.store.files)) (sym e) t.waits) (few_joined w first j waiting counts events t)
 
-pub waits-here : (files : ℕ) (bs : List FileBlock) (i : ℕ) (b : FileBlock) → AreWaiting files bs → i < length bs → b ≡ get_or bs i b → IsWaiting files b
-waits-here files bs i b w l e = subst (IsWaiting files) (sym e) (waiting-at files bs i b w l)
-
-pub below_limit : (n : ℕ) → n < 2 ^ 40 → n ≤ 2 ^ 40
-below_limit n l = omega (arith, l)
-
-pub next_piece : (w : Inputs) (files place i : ℕ) (bs : List FileBlock) (b : FileBlock) (ps longer : List Piece) (p : Piece) → ArePieces w place (map block_of (take i bs)) ps → AreWaiting files bs → i < length bs → b ≡ get_or bs i b
-    → longer ≡ ps ++ p ∷ [] → IsRightPiece w.store (block_of b) w.vertices w.known w.all w.wanted (place + i) p → ArePieces w place (map block_of (take (i + 1) bs)) longer
-next_piece w files place i bs b ps longer p are waits l e more right =
-    subst (ArePieces w place (map block_of (take (i + 1) bs))) (sym more)
-    (subst (λ xs. ArePieces w place (map block_of xs) (ps ++ p ∷ [])) (sym (take_more bs i b l ∙ ap (λ x. take i bs ++ x ∷ []) (sym e)))
-    (subst (λ xs. ArePieces w place xs (ps ++ p ∷ [])) (sym (map-append block_of (take i bs) (b ∷ [])))
-    (pieces-snoc w place (place + i) (map block_of (take i bs)) ps (block_of b) p are (ap (λ n. place + n) (sym (length-map (take i bs) block_of ∙ length-take-le i bs (below i (length bs) l))))
-    (some_records b (waits-here files bs i b waits l e).3, right))))
-  where
-    below : (m n : ℕ) → m < n → m ≤ n
-    below m n l = omega (arith, l)
+  pub are_made : (ps : Vec Piece Y) → gives blocks j.blocks (Ok ps) → ArePieces w j.blocks (map block_of waiting) ps.items
+  are_made ps h = subst (λ bs. ArePieces w j.blocks (map block_of bs) ps.items) e (makes.does blocks j.blocks (Ok ps) (subst (AreWaiting (length w.store.files)) (sym e) t.waits) (few_joined w first j waiting counts events t) h)
 
 -- ---- why it stops
 

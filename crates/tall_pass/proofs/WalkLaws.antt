@@ -1,42 +1,38 @@
 -- What the walk of a pass says, from how the walk over its files ended and what its taker had.
 use Rattle.std.proofs.Common.{ℕ, zero, suc, ◌≡◌, ◌≢◌, ◌∙◌, ◌<◌, ◌≤◌, ◌+◌, ◌^◌, inl, inr, List, [], ◌∷◌, ◌++◌, Ok, Err, Result, sym, ap, subst, refl, arith, length, map, get_or, take}
-use Rattle.std.specs.Prelude.{◌⊎◌, Option, Some, None, IfErr, IfOk, IfSome, option_map}
-use Rattle.std.specs.List.{flat_map}
+use Rattle.std.specs.Prelude.{◌⊎◌, Option, Some, None, IfOk}
 use Rattle.std.specs.Option.{option_or}
 use Rattle.std.proofs.lemmas.List.{append-nil}
 use Rattle.tall_outside.specs.Count.{Rose}
 use Rattle.tall_outside.specs.OpenedNames.{Adds}
 use Rattle.tall_outside.specs.Shelf.{Files, file_in}
 use Rattle.tall_outside.specs.ShelfCounts.{Counts}
-use Rattle.tall_semantics.specs.Faults.{fault_seen}
 use Rattle.tall_semantics.specs.Deferred.{IsAmong}
-use Rattle.tall_value.specs.declared.faults.ReadingKind.{ReadingKind}
-use Rattle.tall_value.specs.declared.faults.ReadingKind.TheVariants.{NoFile, HeaderDiffers, TooManyRows}
+use Rattle.tall_value.specs.declared.faults.ReadingKind.TheVariants.{NoFile}
 use Rattle.tall_store.specs.declared.faults.ReadingFault.{ReadingFault}
 use Rattle.tall_store.specs.declared.file_rows.FileBlock.{FileBlock}
 use Rattle.tall_store.specs.Blocks.{Block, all_blocks, first_in_blocks}
-use Rattle.tall_store.specs.FileEnds.{fault_at, name_of_file}
+use Rattle.tall_store.specs.FileEnds.{name_of_file}
 use Rattle.tall_store.specs.Records.{data_in}
 use Rattle.tall_store.specs.Stored.{file_faults_from, first_fault}
 use Rattle.tall_store.specs.Walk.{file_faults}
 use Rattle.tall_store.specs.Stores.{IsStore, SeenStore}
 use Rattle.tall_piece.specs.declared.sums.Sums.{Sums}
 use Rattle.tall_piece.specs.Joins.{AreWays}
-use Rattle.tall_piece.specs.Passes.{PassOver}
-use Rattle.tall_piece.specs.Pieces.{AreSums, SumsFit}
-use Rattle.tall_walk.specs.Events.{Event, IsWalk, a_block, all_events, an_end, block_of, blocks_in, events_from, file_events, first_in}
+use Rattle.tall_piece.specs.Pieces.{SumsFit}
+use Rattle.tall_walk.specs.Events.{Event, IsWalk, a_block, all_events, an_end, block_of, blocks_in, events_from, first_in}
 use Rattle.tall_walk.specs.OneFile.{IsOfFile, blocks_of}
 use Rattle.tall_walk.specs.declared.ends.WalkEnd.{WalkEnd}
 use Rattle.tall_walk.specs.declared.ends.WalkEnd.TheVariants as end
 use Rattle.tall_walk.specs.Walked as walk
-use Rattle.tall_walk.proofs.Walks.{blocks_append, walk_more}
+use Rattle.tall_walk.proofs.Walks.{blocks_append}
 use Rattle.tall_pass.specs.declared.faults.PassFault.{PassFault}
 use Rattle.tall_pass.specs.declared.faults.PassFault.TheVariants.{Reading, Read, TooLarge, Changed, Memory}
 use Rattle.tall_pass.specs.declared.joining.Joined.{Joined}
 use Rattle.tall_pass.specs.declared.walking.Walked.{Walked}
-use Rattle.tall_pass.specs.Answered.{Answer, IsChange, IsExplained, IsLonger, IsNamedBelow, IsPlaced, OpensFiles}
+use Rattle.tall_pass.specs.Answered.{IsChange, IsExplained, IsLonger, IsNamedBelow, IsPlaced, OpensFiles}
 use Rattle.tall_pass.specs.Counts.{AllCounted, AreCounted, KeepsCounts, count_at}
-use Rattle.tall_pass.specs.Taken.{AreEnded, AreGiven, AreOfFiles, EndsBlocks, HasJoined, HasStopped, HasTaken, Inputs, IsEndIn, IsOther, OfInputs}
+use Rattle.tall_pass.specs.Taken.{AreOfFiles, EndsBlocks, HasStopped, HasTaken, Inputs, IsEndIn, IsOther, OfInputs}
 use Rattle.tall_pass.specs.Walking.{AreNone, AreSome, AreSumsOf, EndsReading, EndsWalk, EndsWhole, JoinsAll, NeedsTaken, WalkTells, answer_of}
 use Rattle.tall_walk.specs.Placed.{IsColumn}
 use Rattle.tall_walk.proofs.FaultLaws.{IsThere}

@@ -10,7 +10,6 @@ use Rattle.tall_store.specs.Stores.{SeenStore}
 use Rattle.tall_store.specs.declared.file_rows.FileBlock.{FileBlock}
 use Rattle.tall_fuse.specs.declared.known.Known.{Known}
 use Rattle.tall_piece.specs.declared.pieces.Piece.{Piece}
-use Rattle.tall_piece.specs.declared.sums.Sums.{Sums}
 use Rattle.tall_piece.specs.declared.wanted.Wanted.{Wanted}
 use Rattle.tall_piece.specs.Given.{IsGiven}
 use Rattle.tall_piece.specs.Joins.{AreWays}
@@ -52,6 +51,10 @@ ArePieces w n [] [] = ⊤
 ArePieces w n [] (p ∷ ps) = ⊥
 ArePieces w n (b ∷ bs) [] = ⊥
 ArePieces w n (b ∷ bs) (p ∷ ps) = IsRight w n b p × ArePieces w (suc n) bs ps
+
+-- the piece of a place in a window whose first block has this number; no block is at a place behind the last
+abbrev pub IsRightAt : Inputs → (first : ℕ) → List FileBlock → (place : ℕ) → Piece → Type 0
+IsRightAt w n bs i p = (b : FileBlock) → slice_get bs i ≡ Some b → IsRightPiece w.store (block_of b) w.vertices w.known w.all w.wanted (n + i) p
 
 -- ---- blocks that wait
 

@@ -4,7 +4,6 @@ use Rattle.tall_outside.specs.Shelf.{Files}
 use Rattle.tall_semantics.specs.Faults.{fault_seen}
 use Rattle.tall_store.specs.Blocks.{Block, all_blocks}
 use Rattle.tall_store.specs.Stored.{first_fault}
-use Rattle.tall_store.specs.Stores.{SeenStore}
 use Rattle.tall_piece.specs.declared.sums.Sums.{Sums}
 use Rattle.tall_piece.specs.Passes.{PassOver}
 use Rattle.tall_piece.specs.Pieces.{AreSums, SumsFit}

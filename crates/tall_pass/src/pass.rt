@@ -79,7 +79,7 @@ pub fn run_pass<R: Threads + Sync, S: Shelf + Send, G: Gate + Sync>(
     let all = work.all.as_slice();
     let wanted = work.wanted.as_slice();
     match walk_pass(
-        alloc, gate, shelf, store, graph, known, all, wanted, counts, workers,
+        rt, alloc, gate, shelf, store, graph, known, all, wanted, counts, workers,
     ) {
         Ok(walked) => {
             let Walked { sums, counts: now } = walked;

@@ -7,20 +7,21 @@ use crate::counts::FileCounts;
 use crate::faults::PassFault;
 use crate::given::{PassGiven, Shared};
 use crate::joining::{Joined, join_pieces};
-use crate::window::pieces;
-use std::alloc::Global;
+use std::alloc::{AllocError, Global};
 use std::marker::PhantomData;
 use std::mem;
 use tall_cut::RawBlock;
-use tall_outside::Gate;
+use tall_piece::Piece;
 use tall_store::FileBlock;
 use tall_walk::TakesBlocks;
 
 /// Takes the blocks of a pass. Blocks wait in a window until it is full; then their pieces are made and joined.
 #[derive(Drop)]
-pub(crate) struct Taker<'a, G, K> {
+pub(crate) struct Taker<'a, C, K> {
     pub(crate) alloc: Global,
-    pub(crate) gate: &'a G,
+    /// Makes the pieces of blocks, the first of which has this number among the datastore's blocks. It is a closure, since it
+    /// may start threads, as no method of an impl may.
+    pub(crate) call: &'a C,
     pub(crate) shared: Shared<'a>,
     /// How many blocks make a window full.
     pub(crate) most: usize,
@@ -35,7 +36,7 @@ pub(crate) struct Taker<'a, G, K> {
     pub(crate) given: PhantomData<K>,
 }
 
-impl<'a, G: Gate, K: PassGiven> Taker<'a, G, K> {
+impl<'a, C: Fn(&[FileBlock], u64) -> Result<Vec<Piece>, AllocError>, K: PassGiven> Taker<'a, C, K> {
     ghost use Rattle.tall_pass.specs.Takers.{Takes, inputs_of};
 
     /// Makes the pieces of the blocks that wait, and joins them.
@@ -43,19 +44,14 @@ impl<'a, G: Gate, K: PassGiven> Taker<'a, G, K> {
     /// # Errors
     /// The first reading fault of these blocks, or want of memory; then the taker has nothing more.
     pub(crate) fn work_off(&mut self) -> Result<(), PassFault>
-        requires { (events : List Event) × Takes K.PassGiven self.old events }
-        ensures goes { IfOk result (λ _. (events : List Event) → Takes K.PassGiven self.old events → Takes K.PassGiven self.new events) }
+        requires { (events : List Event) × Takes C.pre C.post K.PassGiven self.old events }
+        ensures goes { IfOk result (λ _. (events : List Event) → Takes C.pre C.post K.PassGiven self.old events → Takes C.pre C.post K.PassGiven self.new events) }
         ensures all { IfOk result (λ _. self.new.window.items ≡ []) }
-        ensures ends { IfErr result (λ e. (events : List Event) → Takes K.PassGiven self.old events → EndsBlocks self.old.shared.store.now (blocks_in events) e) }
+        ensures ends { IfErr result (λ e. (events : List Event) → Takes C.pre C.post K.PassGiven self.old events → EndsBlocks self.old.shared.store.now (blocks_in events) e) }
         ensures shared { inputs_of self.new ≡ inputs_of self.old }
     {
-        let Ok(pieces) = pieces(
-            self.alloc,
-            self.gate,
-            &self.shared,
-            self.window.as_slice(),
-            self.joined.blocks,
-        ) else {
+        let call = self.call;
+        let Ok(pieces) = call(self.window.as_slice(), self.joined.blocks) else {
             return Err(PassFault::Memory);
         };
         let joined = mem::replace(&mut self.joined, Joined::none(self.alloc));
@@ -71,9 +67,9 @@ impl<'a, G: Gate, K: PassGiven> Taker<'a, G, K> {
 
     /// The same where the window is full.
     fn work_if_full(&mut self) -> Result<(), PassFault>
-        requires { (events : List Event) × Takes K.PassGiven self.old events }
-        ensures goes { IfOk result (λ _. (events : List Event) → Takes K.PassGiven self.old events → Takes K.PassGiven self.new events) }
-        ensures ends { IfErr result (λ e. (events : List Event) → Takes K.PassGiven self.old events → EndsBlocks self.old.shared.store.now (blocks_in events) e) }
+        requires { (events : List Event) × Takes C.pre C.post K.PassGiven self.old events }
+        ensures goes { IfOk result (λ _. (events : List Event) → Takes C.pre C.post K.PassGiven self.old events → Takes C.pre C.post K.PassGiven self.new events) }
+        ensures ends { IfErr result (λ e. (events : List Event) → Takes C.pre C.post K.PassGiven self.old events → EndsBlocks self.old.shared.store.now (blocks_in events) e) }
         ensures shared { inputs_of self.new ≡ inputs_of self.old }
     {
         if self.window.len() < self.most {
@@ -85,7 +81,7 @@ impl<'a, G: Gate, K: PassGiven> Taker<'a, G, K> {
     /// A block waits.
     fn wait(&mut self, block: FileBlock) -> Result<(), PassFault>
         requires { IsWaiting (length self.old.shared.store.now.files) block }
-        ensures waits { IfOk result (λ _. (events : List Event) → Takes K.PassGiven self.old events → Takes K.PassGiven self.new (events ++ a_block (block_of block) ∷ [])) }
+        ensures waits { IfOk result (λ _. (events : List Event) → Takes C.pre C.post K.PassGiven self.old events → Takes C.pre C.post K.PassGiven self.new (events ++ a_block (block_of block) ∷ [])) }
         ensures memory { IfErr result (λ e. e ≡ PassFault.Memory) }
         ensures shared { inputs_of self.new ≡ inputs_of self.old }
     {
@@ -97,7 +93,7 @@ impl<'a, G: Gate, K: PassGiven> Taker<'a, G, K> {
 
     /// A block whose memory may be used again.
     fn spare_block(&mut self) -> Option<RawBlock>
-        ensures takes { (events : List Event) → Takes K.PassGiven self.old events → Takes K.PassGiven self.new events }
+        ensures takes { (events : List Event) → Takes C.pre C.post K.PassGiven self.old events → Takes C.pre C.post K.PassGiven self.new events }
         ensures shared { inputs_of self.new ≡ inputs_of self.old }
     {
         match self.spare.pop() {
@@ -110,14 +106,15 @@ impl<'a, G: Gate, K: PassGiven> Taker<'a, G, K> {
     }
 }
 
-impl<'a, G: Gate, K: PassGiven> TakesBlocks for Taker<'a, G, K> {
+impl<'a, C: Fn(&[FileBlock], u64) -> Result<Vec<Piece>, AllocError>, K: PassGiven> TakesBlocks
+    for Taker<'a, C, K> {
     ghost use Rattle.tall_pass.specs.Takers.{Takes};
 
     type Stop = PassFault;
 
     ghost files = { λ t. length t.shared.store.now.files };
 
-    ghost has_taken = { λ t events. Takes K.PassGiven t events };
+    ghost has_taken = { λ t events. Takes C.pre C.post K.PassGiven t events };
 
     ghost has_stopped = { λ _ e before event. OfInputs K.inputs (λ w. HasStopped w.store K.counts e before event) };
 

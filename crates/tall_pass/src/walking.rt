@@ -1,14 +1,17 @@
 //! The walk of a pass over the files of its datastore.
-ghost use Rattle.std.specs.Prelude.{◌≡◌, ◌<◌, ◌≤◌, ◌^◌, ℕ, IfOk, List, Some, length};
+ghost use Rattle.std.specs.Prelude.{◌≡◌, ◌<◌, ◌≤◌, ◌^◌, ℕ, IfOk, List, Result, Some, Vec, length, map};
+ghost use Rattle.std.specs.Borrow.{Bor};
+ghost use Rattle.std.specs.Thread.{IsSync};
 ghost use Rattle.tall_outside.specs.Shelf.{Files};
 ghost use Rattle.tall_outside.specs.ShelfCounts.{IsLater, shelf_counts};
 ghost use Rattle.tall_semantics.specs.Deferred.{IsAmong};
 ghost use Rattle.tall_store.specs.Stores.{IsStore};
 ghost use Rattle.tall_piece.specs.Joins.{AreWays};
+ghost use Rattle.tall_walk.specs.Events.{block_of};
 ghost use Rattle.tall_walk.specs.Walked.{AreShort};
 ghost use Rattle.tall_pass.specs.Answered.{IsChange, IsExplained, IsLonger, IsPlaced, OpensFiles};
 ghost use Rattle.tall_pass.specs.Counts.{AllCounted, KeepsCounts};
-ghost use Rattle.tall_pass.specs.Taken.{Inputs, inputs};
+ghost use Rattle.tall_pass.specs.Taken.{ArePieces, AreWaiting, Inputs, inputs};
 ghost use Rattle.tall_pass.specs.Takers.{Takes, shared_inputs};
 ghost use Rattle.tall_pass.specs.Walking.{AreNone, AreSome, EndsWalk, NeedsTaken, WalkTells, answer_of};
 
@@ -17,13 +20,15 @@ use crate::faults::PassFault;
 use crate::given::{PassGiven, Shared};
 use crate::joining::Joined;
 use crate::taker::Taker;
-use std::alloc::Global;
+use crate::window::pieces;
+use std::alloc::{AllocError, Global};
 use std::marker::{Brand, PhantomData};
+use std::thread::Threads;
 use tall_fuse::Known;
 use tall_graph::{Graph, NodeId};
 use tall_outside::{Gate, Shelf};
-use tall_piece::{Sums, Wanted};
-use tall_store::Datastore;
+use tall_piece::{Piece, Sums, Wanted};
+use tall_store::{Datastore, FileBlock};
 use tall_walk::{WalkEnd, walk_files};
 
 /// How many blocks wait for each worker before their pieces are made.
@@ -39,12 +44,12 @@ pub(crate) struct Walked {
 }
 
 /// Behind the walk: the blocks that still wait are worked off, and a fault of these comes before that of a file.
-fn end_walk<'a, G: Gate, K: PassGiven>(
-    taker: Taker<'a, G, K>,
+fn end_walk<'a, C: Fn(&[FileBlock], u64) -> Result<Vec<Piece>, AllocError>, K: PassGiven>(
+    taker: Taker<'a, C, K>,
     end: WalkEnd<PassFault>,
 ) -> Result<Walked, PassFault>
-    requires { NeedsTaken (Takes K.PassGiven taker) end }
-    ensures { (w : Inputs) → K.inputs ≡ Some w → EndsWalk (Takes K.PassGiven taker.entry) w K.counts end result }
+    requires { NeedsTaken (Takes C.pre C.post K.PassGiven taker) end }
+    ensures { (w : Inputs) → K.inputs ≡ Some w → EndsWalk (Takes C.pre C.post K.PassGiven taker.entry) w K.counts end result }
 {
     let mut taker = taker;
     match end {
@@ -68,17 +73,20 @@ fn end_walk<'a, G: Gate, K: PassGiven>(
 }
 
 /// The walk, with all that it is given by name.
-fn walk_given<S: Shelf, G: Gate, K: PassGiven>(
+fn walk_given<S: Shelf, C: Fn(&[FileBlock], u64) -> Result<Vec<Piece>, AllocError>, K: PassGiven>(
     alloc: Global,
-    gate: &G,
     shelf: &mut S,
     shared: &Shared<'_>,
+    call: &C,
+    given: PhantomData<K>,
     sums: Sums,
     counts: FileCounts,
     workers: u32,
 ) -> Result<Walked, PassFault>
     requires some { 0 < workers }
     requires few { workers ≤ 64 }
+    requires asks { (blocks : Bor (List FileBlock)) (first : ℕ) → AreWaiting (length shared.now.store.now.files) blocks.now → first < 2 ^ 40 → C.pre call.now blocks first }
+    requires gives { (blocks : Bor (List FileBlock)) (first : ℕ) (r : Result (Vec Piece Global) AllocError) → AreWaiting (length shared.now.store.now.files) blocks.now → first < 2 ^ 40 → C.post call.now blocks first r → IfOk r (λ v. ArePieces (shared_inputs shared.now) first (map block_of blocks.now) v.items) }
     requires given { K.inputs ≡ Some (shared_inputs shared.now) }
     requires known { K.counts ≡ counts }
     requires store { IsStore shared.now.store.now }
@@ -97,16 +105,16 @@ fn walk_given<S: Shelf, G: Gate, K: PassGiven>(
     ensures placed { IsPlaced shared.now.store.now (answer_of result) }
     ensures told { (files : Files) → S.held shelf.old ≡ Some files → AreShort files shared.now.store.now.files → WalkTells (shared_inputs shared.now) files counts result }
 {
-    let mut taker = Taker::<G, K> {
+    let mut taker = Taker {
         alloc,
-        gate,
+        call,
         shared: *shared,
         most: BLOCKS_OF_A_WORKER * workers as usize,
         joined: Joined { sums, blocks: 0 },
         window: Vec::new(alloc),
         spare: Vec::new(alloc),
         counts,
-        given: PhantomData,
+        given,
     };
     let end = walk_files(shelf, shared.store, &mut taker);
     end_walk(taker, end)
@@ -116,7 +124,8 @@ fn walk_given<S: Shelf, G: Gate, K: PassGiven>(
 ///
 /// # Errors
 /// As those of a pass.
-pub(crate) fn walk_pass<'a, S: Shelf, G: Gate>(
+pub(crate) fn walk_pass<'a, R: Threads + Sync, S: Shelf, G: Gate + Sync>(
+    rt: &R,
     alloc: Global,
     gate: &G,
     shelf: &mut S,
@@ -158,5 +167,22 @@ pub(crate) fn walk_pass<'a, S: Shelf, G: Gate>(
         all,
         wanted,
     };
-    walk_given::<S, G, Brand>(alloc, gate, shelf, &shared, sums, first, workers)
+    walk_given(
+        alloc,
+        shelf,
+        &shared,
+        &|blocks: &[FileBlock], first: u64| -> Result<Vec<Piece>, AllocError>
+            requires threads { IsSync R.row × IsSync G.row }
+            requires some { 0 < workers }
+            requires places { (i : ℕ) → IsAmong shared.all.now i → i < length shared.graph.now }
+            requires ways { AreWays shared.graph.now shared.wanted.now }
+            requires waits { AreWaiting (length shared.store.now.files) blocks.now }
+            requires few { first < 2 ^ 40 }
+            ensures { IfOk result (λ v. ArePieces (shared_inputs shared.entry) first (map block_of blocks.entry.now) v.items) }
+        { pieces(rt, alloc, gate, &shared, blocks, first, workers) },
+        PhantomData::<Brand>,
+        sums,
+        first,
+        workers,
+    )
 }
