@@ -1,3 +1,4 @@
 pub mod PieceLaws
 pub mod PhaseLaws
+pub mod WindowLaws
 pub mod WalkLaws

@@ -1,15 +1,14 @@
 -- Calls on empty stores, appended one after the other.
 use Rattle.std.proofs.Common.{ℕ, ◌≡◌, ◌∙◌, List, [], ◌∷◌, ◌++◌, Ok, Err, Result, sym, ap, subst, refl, map}
 use Rattle.std.specs.Prelude.{IfErr, IfOk, Option, Some, None}
-use Rattle.std.proofs.lemmas.List.{append_assoc, append-nil, map-append}
-use Rattle.tall_column.specs.Columns.{SeenColumn}
+use Rattle.std.proofs.lemmas.List.{append-nil}
 use Rattle.tall_grammar.specs.Trees.{SeenFunction}
 use Rattle.tall_kv.specs.ByKey.{Group, class_of_values, groups_of, values_column}
 use Rattle.tall_kv.specs.declared.faults.PairFault.{PairFault}
 use Rattle.tall_kv.specs.declared.faults.PairFault.TheVariants as pair
 use Rattle.tall_kv.specs.Faults.{IsFaultOf}
 use Rattle.tall_value.specs.Cells.{Seen}
-use Rattle.tall_local.specs.Calls.{CallResult, behind_pairs}
+use Rattle.tall_local.specs.Calls.{CallResult}
 use Rattle.tall_local.specs.Memory as memory
 use Rattle.tall_outside.specs.Shelf.{Files}
 use Rattle.tall_local.specs.Pairs.{Pair, appended, distinct_keys}
@@ -23,7 +22,7 @@ use Rattle.tall_fun.specs.declared.faults.FunKind.{FunKind}
 use Rattle.tall_mapred.specs.declared.faults.MapFault.{MapFault}
 use Rattle.tall_mapred.specs.declared.faults.MapFault.TheVariants as map
 use Rattle.tall_mapred.specs.Answers.{Answer, Tells}
-use Rattle.tall_mapred.specs.Phases.{Appends, Ends, EndsWith, Maps, Reduces, Wants, reduce_want, reduce_wants}
+use Rattle.tall_mapred.specs.Phases.{Ends, EndsWith, Maps, Reduces, Wants, reduce_wants}
 use Rattle.tall_mapred.specs.Pieces.{ComesFrom, IsOfFunctions, IsPairFault}
 use Rattle.tall_mapred.specs.declared.calls.CallPiece.{CallPiece}
 use Rattle.tall_mapred.specs.declared.calls.CallPiece.TheVariants as call
@@ -69,21 +68,8 @@ reduce_apart apart f pairs = ap (λ ws. joined_results ws []) (groups_apart f pa
 abbrev pub HasReduced : SeenFunction → List Group → List Pair → Type 0
 HasReduced f groups out = Store → (rest : Wants) → joined_results (reduce_wants f groups ++ rest) [] ≡ joined_results rest out
 
-pub reduces_more : (f : SeenFunction) (groups : List Group) (g : Group) (old new : List Pair) → HasReduced f groups old → (Store → (rest : Wants) → joined_results (reduce_want f g ∷ rest) old ≡ joined_results rest new)
-    → HasReduced f (groups ++ g ∷ []) new
-reduces_more f groups g old new before next d rest =
-    ap (λ ws. joined_results (ws ++ rest) []) (map-append (reduce_want f) groups (g ∷ []))
-    ∙ ap (λ ws. joined_results ws []) (append_assoc (reduce_wants f groups) (reduce_want f g ∷ []) rest)
-    ∙ before d (reduce_want f g ∷ rest)
-    ∙ next d rest
-
 pub reduces_all : (f : SeenFunction) (groups : List Group) (out : List Pair) → HasReduced f groups out → Store → joined_results (reduce_wants f groups) [] ≡ Ok out
 reduces_all f groups out before d = ap (λ ws. joined_results ws []) (sym (append-nil (reduce_wants f groups))) ∙ before d []
-
-pub reduces_not : (f : SeenFunction) (groups : List Group) (g : Group) (more : List Group) (old : List Pair) (fault : MapFault) → HasReduced f groups old → (d : Store) → Ends d (reduce_want f g) old fault
-    → EndsWith d (joined_results (reduce_wants f (groups ++ g ∷ more)) []) fault
-reduces_not f groups g more old fault before d ends =
-    subst (λ x. EndsWith d x fault) (sym (ap (λ ws. joined_results ws []) (map-append (reduce_want f) groups (g ∷ more)) ∙ before d (reduce_want f g ∷ reduce_wants f more))) (ends (reduce_wants f more))
 
 -- ---- the answer
 

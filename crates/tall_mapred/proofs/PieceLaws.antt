@@ -1,5 +1,5 @@
 -- What the pieces of blocks and of keys come from.
-use Rattle.std.proofs.Common.{ℕ, zero, suc, ◌≡◌, ◌∙◌, ◌+◌, List, [], ◌∷◌, ◌++◌, Ok, Err, Result, sym, ap, subst, refl, drop, length, take, ◌<◌, ◌≤◌, arith}
+use Rattle.std.proofs.Common.{ℕ, zero, suc, ◌≡◌, ◌∙◌, List, [], ◌∷◌, Err, sym, ap, subst, refl, length, take, ◌<◌, ◌≤◌, arith}
 use Rattle.std.specs.Prelude.{Option, Some, None, option_map, slice_get}
 use Rattle.std.proofs.lemmas.Option.{none-some}
 use Rattle.tall_column.specs.Columns.{SeenColumn}
@@ -8,18 +8,15 @@ use Rattle.tall_kv.specs.ByKey.{Group}
 use Rattle.tall_value.specs.Cells.{Seen}
 use Rattle.tall_local.specs.Calls.{call_map, call_reduce}
 use Rattle.tall_script.specs.MapReduceLaws.{mapped_block}
-use Rattle.tall_script.specs.ReadingFaults.{stop_of_reading}
 use Rattle.tall_script.specs.States.{Store}
 use Rattle.tall_store.specs.Blocks.{Block, block_table, block_variables, first_block_fault}
 use Rattle.tall_store.specs.Stores.{SeenStore}
 use Rattle.tall_mapred.specs.declared.calls.CallPiece.{CallPiece}
 use Rattle.tall_mapred.specs.declared.calls.CallPiece.TheVariants.{Called, Reading, Memory}
 use Rattle.tall_mapred.specs.Phases.{reduce_want}
-use Rattle.tall_mapred.specs.Pieces.{ComesFrom, IsFaultOfPiece, IsMapPiece, IsOfFunctions, IsOfPhase, IsPairFault, IsReducePiece}
+use Rattle.tall_mapred.specs.Pieces.{ComesFrom, IsFaultOfPiece, IsMapPiece, IsOfFunctions, IsOfPhase, IsReducePiece}
 use Rattle.tall_mapred.specs.declared.faults.MapFault.{MapFault}
 use Rattle.tall_mapred.specs.declared.faults.MapFault.TheVariants as map
-use Rattle.tall_kv.specs.declared.faults.PairFault.{PairFault}
-use Rattle.tall_kv.specs.declared.faults.PairFault.TheVariants as pair
 use Rattle.tall_store.specs.declared.faults.ReadingFault.{ReadingFault}
 use Rattle.tall_store.specs.Stored.{unless_fault}
 
@@ -45,28 +42,6 @@ group_at groups i key values k v = by (slice_get groups i) k v
     by : (o : Option Group) → option_map (λ g. g.key) o ≡ Some key → option_map (λ g. g.values) o ≡ Some values → o ≡ Some (record { key = key; values = values })
     by None a b = absurd (none-some key a)
     by (Some g) a b = ap (λ x. Some x) (same g a b)
-
-first_of_two : (x g : Group) → Some x ≡ Some g → x ≡ g
-first_of_two x g e = cc
-
--- by places that are one more
-take_more : (groups : List Group) (i n : ℕ) (g : Group) → n ≡ suc i → slice_get groups i ≡ Some g → take n groups ≡ take i groups ++ g ∷ []
-take_more groups i zero g s e = absurd cc
-take_more [] i (suc n) g s e = absurd (none-some g e)
-take_more (x ∷ groups) zero (suc zero) g s e = ap (λ y. y ∷ []) (first_of_two x g e)
-take_more (x ∷ groups) zero (suc (suc n)) g s e = absurd cc
-take_more (x ∷ groups) (suc i) (suc n) g s e = ap (λ ys. x ∷ ys) (take_more groups i n g (omega (arith, s)) e)
-
-pub take_one : (groups : List Group) (i : ℕ) (g : Group) → slice_get groups i ≡ Some g → take (i + 1) groups ≡ take i groups ++ g ∷ []
-take_one groups i g e = take_more groups i (i + 1) g (one_more i) e
-  where
-    one_more : (i : ℕ) → i + 1 ≡ suc i
-    one_more i = omega arith
-
-pub cut_at : (groups : List Group) (i : ℕ) (g : Group) → slice_get groups i ≡ Some g → groups ≡ take i groups ++ g ∷ drop (suc i) groups
-cut_at [] i g e = absurd (none-some g e)
-cut_at (x ∷ groups) zero g e = ap (λ y. y ∷ groups) (first_of_two x g e)
-cut_at (x ∷ groups) (suc i) g e = ap (λ ys. x ∷ ys) (cut_at groups i g e)
 
 pub take_all : (groups : List Group) (n : ℕ) → length groups ≤ n → take n groups ≡ groups
 take_all [] zero l = refl
@@ -96,9 +71,3 @@ pub fault_of_reduce : (f : SeenFunction) (g : Group) (piece : CallPiece) (fault 
 fault_of_reduce f g (Called pairs end) fault p e = e
 fault_of_reduce f g (Reading x) fault p e = absurd p
 fault_of_reduce f g Memory fault p e = subst IsOfFunctions (sym e) tt
-
-pub pair_fault_only : (f : PairFault) (fault : MapFault) → IsPairFault f fault → IsOfFunctions fault
-pair_fault_only (pair.KeyClass line) fault e = subst IsOfFunctions (sym e) tt
-pair_fault_only (pair.ValueClass line) fault e = subst IsOfFunctions (sym e) tt
-pair_fault_only (pair.TooManyRows line) fault e = subst IsOfFunctions (sym e) tt
-pair_fault_only pair.Memory fault e = subst IsOfFunctions (sym e) tt

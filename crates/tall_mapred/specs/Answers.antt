@@ -1,7 +1,6 @@
 -- What mapreduce answers.
-use Rattle.std.specs.Prelude.{◌≡◌, ◌<◌, ◌≤◌, ◌^◌, ◌⊎◌, ℕ, List, [], ◌∷◌, Option, Some, None, Result, Ok, Err, IfSome, length, take, codes, ⊤}
+use Rattle.std.specs.Prelude.{◌≡◌, ◌<◌, ◌≤◌, ◌^◌, ℕ, List, [], ◌∷◌, Option, Result, Ok, Err, IfSome, length, take, codes, ⊤}
 use Rattle.tall_column.specs.Columns.{SeenColumn}
-use Rattle.tall_grammar.specs.Trees.{SeenFunction}
 use Rattle.tall_local.specs.Memory.{table}
 use Rattle.tall_local.specs.Memory as memory
 use Rattle.tall_local.specs.Pairs.{Pair}
@@ -13,7 +12,6 @@ use Rattle.tall_outside.specs.ShelfCounts.{Counts}
 use Rattle.tall_value.specs.declared.faults.ReadingKind.TheVariants.{NoFile}
 use Rattle.tall_store.specs.FileEnds.{name_of_file}
 use Rattle.tall_store.specs.Stores.{SeenStore}
-use Rattle.tall_script.specs.MapReduce.{map_reduced}
 use Rattle.tall_script.specs.ReadingFaults.{stop_of_reading}
 use Rattle.tall_script.specs.States.{Store}
 use Rattle.tall_walk.specs.Placed.{IsColumn}

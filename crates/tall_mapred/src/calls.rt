@@ -1,7 +1,6 @@
 //! A call of a function on an empty store.
-ghost use Rattle.std.specs.Prelude.{◌≡◌, ◌<◌, ◌≤◌, ◌^◌, length};
+ghost use Rattle.std.specs.Prelude.{◌<◌, ◌≤◌, ◌^◌, length};
 ghost use Rattle.tall_grammar.specs.Views.{routine_of};
-ghost use Rattle.tall_kv.specs.ByKey.{Group};
 ghost use Rattle.tall_value.specs.Cells.{seen};
 ghost use Rattle.tall_mapred.specs.Pieces.{IsMapPiece, IsReducePiece};
 ghost use Rattle.tall_walk.specs.Events.{block_of};

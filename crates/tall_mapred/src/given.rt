@@ -3,6 +3,8 @@ ghost use Rattle.std.specs.Prelude.{Option};
 ghost use Rattle.tall_mapred.specs.Phases.{Given};
 
 use std::marker::Brand;
+use tall_grammar::Function;
+use tall_store::Datastore;
 
 /// The datastore and the function of a map phase, for clauses alone. It has no calls.
 pub(crate) trait MapGiven {
@@ -13,4 +15,11 @@ impl MapGiven for Brand {
     ghost use Rattle.std.specs.Prelude.{None};
 
     ghost given = { None };
+}
+
+/// What the map calls share.
+#[derive(Clone, Copy)]
+pub(crate) struct Shared<'a> {
+    pub(crate) store: &'a Datastore,
+    pub(crate) function: &'a Function,
 }

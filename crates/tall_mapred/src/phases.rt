@@ -43,7 +43,16 @@ fn pairs_table(alloc: Global, out: Pairs) -> Result<Table, MapFault>
 }
 
 /// The reduce phase over the pairs of the map phase.
-fn reduce_pairs(alloc: Global, reduce: &Function, pairs: Pairs) -> Result<Table, MapFault>
+fn reduce_pairs<R: Threads + Sync, G: Gate + Sync>(
+    rt: &R,
+    alloc: Global,
+    gate: &G,
+    reduce: &Function,
+    pairs: Pairs,
+    workers: u32,
+) -> Result<Table, MapFault>
+    requires some { 0 < workers }
+    requires few { workers ≤ 64 }
     ensures told { (d : Store) → Tells d (reduced_table (reduce_phase (routine_of reduce.now) pairs (distinct_keys pairs) [])) result }
     ensures pairs { IfOk result IsPairTable }
     ensures only { IfErr result IsOfFunctions }
@@ -52,7 +61,7 @@ fn reduce_pairs(alloc: Global, reduce: &Function, pairs: Pairs) -> Result<Table,
     let Ok(groups) = pairs.group() else {
         return Err(MapFault::Memory);
     };
-    match reduce_groups(alloc, reduce, &groups) {
+    match reduce_groups(rt, alloc, gate, reduce, &groups, workers) {
         Ok(out) => pairs_table(alloc, out),
         Err(fault) => Err(fault),
     }
@@ -68,17 +77,17 @@ fn reduce_pairs(alloc: Global, reduce: &Function, pairs: Pairs) -> Result<Table,
 /// - `Reading` with the datastore's first reading fault, where no call for an earlier block has a fault.
 /// - `Read` where the shelf failed, `TooLarge` where more than 2^50 bytes came, `Memory` for want of memory.
 pub fn mapreduce<R: Threads + Sync, S: Shelf + Send, G: Gate + Sync>(
-    _rt: &R,
+    rt: &R,
     alloc: Global,
-    _gate: &G,
+    gate: &G,
     shelf: &mut S,
     store: &Datastore,
     map: &Function,
     reduce: &Function,
-    _workers: u32,
+    workers: u32,
 ) -> Result<Table, MapFault>
-    requires some { 0 < _workers }
-    requires few { _workers ≤ 64 }
+    requires some { 0 < workers }
+    requires few { workers ≤ 64 }
     ensures told { (files : Files) → S.held shelf.old ≡ Some files → AreShort files store.now.files → (d : Store) → d.store ≡ store.now → Tells d (map_reduced files d (routine_of map.now) (routine_of reduce.now)) result }
     ensures table { IfOk result IsPairTable }
     ensures held { S.held shelf.new ≡ S.held shelf.old }
@@ -88,8 +97,8 @@ pub fn mapreduce<R: Threads + Sync, S: Shelf + Send, G: Gate + Sync>(
     ensures longer { (files : Files) → S.held shelf.old ≡ Some files → IsLonger store.now files result }
     ensures placed { IsPlaced store.now result }
 {
-    match map_blocks(alloc, shelf, store, map) {
-        Ok(pairs) => reduce_pairs(alloc, reduce, pairs),
+    match map_blocks(rt, alloc, gate, shelf, store, map, workers) {
+        Ok(pairs) => reduce_pairs(rt, alloc, gate, reduce, pairs, workers),
         Err(fault) => Err(fault),
     }
 }

@@ -1,6 +1,7 @@
-use Rattle.tall_mapred.specs.Takers.{given_of}
-use Rattle.tall_mapred.proofs.WalkLaws.{maps_end}
+use Rattle.tall_mapred.proofs.WalkLaws.{one_ended}
 use Rattle.tall_mapred.proofs.taker.MapTakerTakesBlocks.end_file.Goals as goal
 
 pub returns-clause-took : goal.returns-clause-took
-returns-clause-took g c before taken = (taken.0, maps_end (given_of c.args.self.now) before c.args._file c.args._records c.args.self.now.pairs taken.1)
+returns-clause-took g c = λ before taken.
+    let t = c.args.self.now in
+    one_ended g.K.MapGiven.given (goal.C-pre g t.call.now) (goal.C-post g t.call.now) t.most t.pairs t.window.items before c.args._file c.args._records taken
