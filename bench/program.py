@@ -246,4 +246,5 @@ def main():
         sys.exit("answers differ")
 
 
-main()
+if __name__ == "__main__":
+    main()

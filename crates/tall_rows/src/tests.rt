@@ -26,7 +26,7 @@ struct Row {
     line: &'static str,
 }
 
-fn words_of(alloc: Global, words: &[&str]) -> Result<Vec<String>, Fail> {
+pub(crate) fn words_of(alloc: Global, words: &[&str]) -> Result<Vec<String>, Fail> {
     let mut all = Vec::new(alloc);
     for word in words {
         all.push(String::from_str(alloc, word)?)?;
@@ -34,7 +34,11 @@ fn words_of(alloc: Global, words: &[&str]) -> Result<Vec<String>, Fail> {
     Ok(all)
 }
 
-fn shelf_of<R: Abort>(rt: &R, alloc: Global, files: &[(&str, &str)]) -> Result<MemShelf, Fail> {
+pub(crate) fn shelf_of<R: Abort>(
+    rt: &R,
+    alloc: Global,
+    files: &[(&str, &str)],
+) -> Result<MemShelf, Fail> {
     let mut all = Vec::new(alloc);
     for (name, text) in files {
         all.push((
@@ -72,7 +76,7 @@ fn check_row<R: Threads + Sync + Abort>(rt: &R, alloc: Global, row: &Row) -> Res
     Ok(())
 }
 
-const GO: &[&str] = &["tallrun", "s.m"];
+pub(crate) const GO: &[&str] = &["tallrun", "s.m"];
 
 /// What the script prints.
 const SUMS: &[Row] = &[

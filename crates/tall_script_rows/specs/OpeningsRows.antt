@@ -2,6 +2,7 @@
 use Rattle.std.specs.Prelude.{◌≡◌, [], ◌∷◌, ◌++◌, codes, refl}
 use Rattle.tall_grammar.specs.declared.expressions.Infix.TheVariants.{Add, Sub, DotDiv}
 use Rattle.tall_grammar.specs.Refusals.{read, syntax_at}
+use Rattle.tall_grammar.specs.Trees.{assign_step}
 use Rattle.tall_script.specs.AllowedOpenings.{allowed_of}
 use Rattle.tall_script.specs.Runs.{openings}
 use Rattle.tall_script_rows.specs.RowWords.{whole_runs, over, usual}
@@ -141,6 +142,72 @@ mapreduce_opens_once : openings (over (codes "x\n3\n5\n")) (script_with (usual (
     [] ∷ [])) (codes "a.csv") ≡ 2
 unfolding whole_runs
 mapreduce_opens_once = refl
+
+-- a mapreduce whose map function fails counts as one that does not
+-- a.csv: x / 3 / 5
+-- 3: r = mapreduce(ds, @m, @m);
+-- 4: function m(a, b, c)
+-- 5: n = undef;
+-- 6: end
+mapreduce_that_fails : openings (over (codes "x\n3\n5\n")) (script_with (usual ("%f" ∷ []) ++ (
+    silent 3 (sets "r" (call "mapreduce" (name "ds" ∷ handle "m" ∷ handle "m" ∷ []))) ∷ [])) (
+    function_from "m" 4 (parameter "a" ∷ parameter "b" ∷ parameter "c" ∷ [])
+    (assign_step 5 (codes "n") (name "undef") ∷ []) ∷ [])) (codes "a.csv") ≡ 2
+unfolding whole_runs
+mapreduce_that_fails = refl
+
+-- also for a file behind the one at which it fails
+-- a.csv: x / 3 / 5
+-- b.csv: x / 1
+-- 3: U = tabularTextDatastore({'a.csv', 'b.csv'});
+-- 4: r = mapreduce(U, @m, @m);
+-- 5: function m(a, b, c)
+-- 6: n = undef;
+-- 7: end
+later_file_of_a_mapreduce_that_fails : openings ((codes "a.csv", codes "x\n3\n5\n") ∷ (codes "b.csv", codes "x\n1\n") ∷ []) (script_with (usual ("%f" ∷ []) ++ (
+    silent 3 (sets "U" (call "tabularTextDatastore" (texts ("a.csv" ∷ "b.csv" ∷ []) ∷ []))) ∷
+    silent 4 (sets "r" (call "mapreduce" (name "U" ∷ handle "m" ∷ handle "m" ∷ []))) ∷ [])) (
+    function_from "m" 5 (parameter "a" ∷ parameter "b" ∷ parameter "c" ∷ [])
+    (assign_step 6 (codes "n") (name "undef") ∷ []) ∷ [])) (codes "b.csv") ≡ 1
+unfolding whole_runs
+later_file_of_a_mapreduce_that_fails = refl
+
+-- a first file that is not there is opened to find that out
+-- a.csv: x / 3 / 5
+-- 3: U = tabularTextDatastore({'n.csv', 'a.csv'});
+first_file_that_is_not_there : openings (over (codes "x\n3\n5\n")) (script (usual ("%f" ∷ []) ++ (
+    silent 3 (sets "U" (call "tabularTextDatastore" (texts ("n.csv" ∷ "a.csv" ∷ []) ∷ []))) ∷ []))) (codes "n.csv") ≡ 1
+unfolding whole_runs
+first_file_that_is_not_there = refl
+
+-- the files behind it are not
+-- a.csv: x / 3 / 5
+-- 3: U = tabularTextDatastore({'n.csv', 'a.csv'});
+file_behind_one_that_is_not_there : openings (over (codes "x\n3\n5\n")) (script (usual ("%f" ∷ []) ++ (
+    silent 3 (sets "U" (call "tabularTextDatastore" (texts ("n.csv" ∷ "a.csv" ∷ []) ∷ []))) ∷ []))) (codes "a.csv") ≡ 1
+unfolding whole_runs
+file_behind_one_that_is_not_there = refl
+
+-- a.csv: x / 3 / 5
+-- 3: z = gather(tail(T.x));
+last_rows : openings (over (codes "x\n3\n5\n")) (script (usual ("%f" ∷ []) ++ (
+    silent 3 (sets "z" (call "gather" (call "tail" (member (name "T") "x" ∷ []) ∷ []))) ∷ []))) (codes "a.csv") ≡ 2
+unfolding whole_runs
+last_rows = refl
+
+-- a.csv: x / 3 / 5
+-- 3: z = gather(groupsummary(T, 'x'));
+groups_of_a_table : openings (over (codes "x\n3\n5\n")) (script (usual ("%f" ∷ []) ++ (
+    silent 3 (sets "z" (call "gather" (call "groupsummary" (name "T" ∷ text "x" ∷ []) ∷ []))) ∷ []))) (codes "a.csv") ≡ 2
+unfolding whole_runs
+groups_of_a_table = refl
+
+-- a.csv: x / 3 / 5
+-- 3: z = gather(1 - T.x);
+column_on_the_right : openings (over (codes "x\n3\n5\n")) (script (usual ("%f" ∷ []) ++ (
+    silent 3 (sets "z" (call "gather" (infix_of Sub (number 1) (member (name "T") "x") ∷ []))) ∷ []))) (codes "a.csv") ≡ 2
+unfolding whole_runs
+column_on_the_right = refl
 
 -- only the first file is opened with the datastore
 -- a.csv: x / 3 / 5

@@ -1,0 +1,3 @@
+ds = tabularTextDatastore('a.csv', 'TextscanFormats', {'%f'});
+M = readall(ds);
+G = groupsummary(M, 'GroupCount');
