@@ -1,7 +1,7 @@
 //! How many data records a file of a datastore has, read in blocks: a caller of the reader of one file, with its contract.
 ghost use Rattle.std.specs.Prelude.{◌≡◌, ◌<◌, ◌^◌, ℕ, IfSome, Some, length};
-ghost use Rattle.tall_cut.specs.Asked.{Asks, size_in};
-ghost use Rattle.tall_store.specs.FileEnds.{IsReadWhole, name_of_file, walked_file};
+ghost use Rattle.tall_cut.specs.Asked.{Asks};
+ghost use Rattle.tall_store.specs.FileEnds.{name_of_file, walked_file};
 ghost use Rattle.tall_store.specs.FileSteps.{first_row, next_row, rows_left};
 
 use std::marker::Brand;
@@ -15,7 +15,6 @@ fn count_left<'s, S: Shelf, K: OpenedFile>(rows: &mut FileRows<'s, S, K>) -> Fil
     requires limit { K.limit ≡ 2 ^ 50 }
     requires front { next_row rows.old ≡ first_row rows.old }
     ensures all { (n : ℕ) → result ≡ FileEnd.Whole n → IfSome (rows_left rows.old) (λ records. n ≡ length records) }
-    ensures whole { IsReadWhole result K.size }
 {
     loop {
         match rows.next(1) {

@@ -5,7 +5,6 @@ use Rattle.csv.specs.Machine.{next_record}
 use Rattle.csv.specs.Reading.{records_from, strip_bom}
 use Rattle.tall_cut.specs.Asked.{and_name, size_in}
 use Rattle.tall_cut.specs.Blocks.{ends_from, groups, joined}
-use Rattle.tall_cut.specs.Feed.{within_limit}
 use Rattle.tall_scan.specs.Rows.{file_records}
 
 pub no_bytes : file_records 44 [] ≡ []
@@ -47,12 +46,6 @@ three_fields = refl
 pub three_ends : ends_from 4 (codes "a" ∷ [] ∷ codes "bc" ∷ []) ≡ 5 ∷ 5 ∷ 7 ∷ []
 unfolding ends_from
 three_ends = refl
-
-pub at_the_limit : within_limit 3 1 (Some (codes "ab")) ≡ Some (codes "ab")
-at_the_limit = refl
-
-pub above_the_limit : within_limit 3 2 (Some (codes "ab")) ≡ None
-above_the_limit = refl
 
 pub size_of_a_file : size_in (Some ((codes "a.csv", codes "x") ∷ [])) (codes "a.csv") ≡ Some 1
 size_of_a_file = refl

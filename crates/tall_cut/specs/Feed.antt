@@ -1,12 +1,7 @@
 -- The bytes that a feed still gives, and what is known of the file under it.
-use Rattle.std.specs.Prelude.{◌≡◌, ◌+◌, ◌-◌, ◌^◌, ◌≤◌, ℕ, min, Bool, true, false, List, Option, None, Some, length, nat_le, if◌then◌else◌, ⊤}
+use Rattle.std.specs.Prelude.{◌≡◌, ◌+◌, ◌-◌, ◌^◌, ◌≤◌, ℕ, min, Bool, true, false, List, Option, None, Some, length, ⊤}
 use Rattle.std.specs.Coded.{Unit-prop, le_prop}
 use Rattle.std.proofs.Math.Nat.{ℕ_set}
-
--- what is left of a file where no more than the limit comes in all, else nothing that is known
-abbrev pub within_limit : ℕ → ℕ → Option (List ℕ) → Option (List ℕ)
-within_limit limit came None = None
-within_limit limit came (Some xs) = if nat_le (came + length xs) limit then Some xs else None
 
 -- a number as a count has it, which stops at the last value of u64
 abbrev pub counted : ℕ → ℕ

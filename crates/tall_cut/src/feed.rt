@@ -4,7 +4,7 @@ ghost use Rattle.std.specs.Prelude.{◌≡◌, ◌≤◌, ◌<◌, ◌^◌, ℕ,
 ghost use Rattle.std.specs.Borrow.{GName};
 ghost use Rattle.tall_outside.specs.Count.{Rose};
 ghost use Rattle.tall_outside.specs.Shelf.{Files};
-ghost use Rattle.tall_cut.specs.Feed.{HasCome, HasCome-prop, Inside, Inside-prop, within_limit};
+ghost use Rattle.tall_cut.specs.Feed.{HasCome, HasCome-prop, Inside, Inside-prop};
 
 use std::io;
 use std::io::Read;
@@ -79,8 +79,8 @@ pub struct Refused<'s, S> {
 
 /// The bytes of the open file of a shelf, of which no more than `limit` may come.
 ///
-/// A read fails where the shelf's read fails, and where more than `limit` bytes came; then every later
-/// read fails too. A byte order mark is a part of the bytes.
+/// A read fails where the shelf's read fails, and where more than `limit` bytes came before; then every later
+/// read fails too, so a file that is longer never comes to its end. A byte order mark is a part of the bytes.
 #[derive(Drop)]
 pub struct Feed<'s, S: Shelf, K: OpenedFile> {
     pub(crate) shelf: &'s mut S,
@@ -114,7 +114,7 @@ impl<'s, S: Shelf, K: OpenedFile> Read for Feed<'s, S, K> {
     ghost use Rattle.std.specs.Io.KnownBytes.{ReadConsumes};
     ghost use Rattle.tall_cut.specs.Left.{feed_left};
 
-    ghost remaining = { λ s. within_limit s.limit (S.came s.shelf.now) (S.left s.shelf.now) };
+    ghost remaining = { λ s. S.left s.shelf.now };
 
     fn read(&mut self, buf: &mut [u8]) -> io::Result<usize>
         ensures bound { ReadsAtMost result buf.new }
@@ -132,11 +132,7 @@ impl<'s, S: Shelf, K: OpenedFile> Read for Feed<'s, S, K> {
         match self.shelf.read(buf) {
             Ok(count) => {
                 self.came = self.came.saturating_add(count as u64);
-                if self.came > self.limit {
-                    self.too_large = true;
-                    self.at_end = false;
-                    return Err(io::Error::from(io::ErrorKind::FileTooLarge));
-                }
+                self.too_large = self.came > self.limit;
                 self.at_end = count == 0;
                 Ok(count)
             }

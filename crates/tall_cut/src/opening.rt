@@ -4,7 +4,6 @@ ghost use Rattle.std.specs.Prelude.{◌≡◌, IfOk, IfErr, IfSome, IsSomeAnd, S
 ghost use Rattle.tall_outside.specs.Count.{RisesIf};
 ghost use Rattle.tall_outside.specs.Shelf.{Logs, file_in, has_failed, is_missing};
 ghost use Rattle.tall_cut.specs.Asked.{Asks, opening_of};
-ghost use Rattle.tall_cut.specs.Feed.{within_limit};
 ghost use Rattle.tall_cut.specs.Left.{feed_left};
 
 use crate::feed::{Feed, FeedFault, Lent, OpenedFile, Refused};
@@ -22,7 +21,7 @@ pub fn open_feed<'s, S: Shelf, K: OpenedFile>(
     limit: u64,
 ) -> Result<Feed<'s, S, K>, Refused<'s, S>>
     requires { Asks S.Shelf K.OpenedFile lent.shelf.ghost_name lent.shelf.now name.now limit }
-    ensures bytes { IfOk result (λ f. IfSome K.held (λ files. IsSomeAnd (file_in files name.now) (λ bytes. feed_left f ≡ within_limit limit 0 (Some bytes)))) }
+    ensures bytes { IfOk result (λ f. IfSome K.held (λ files. IsSomeAnd (file_in files name.now) (λ bytes. feed_left f ≡ Some bytes))) }
     ensures absent { IfErr result (λ e. e.fault ≡ FeedFault.NoSuch → IfSome K.held (λ files. file_in files name.now ≡ None)) }
     ensures lender { IfErr result (λ e. Some e.lent.shelf.ghost_name ≡ K.lender) }
     ensures held { IfErr result (λ e. S.held e.lent.shelf.now ≡ K.held) }

@@ -1,15 +1,13 @@
 -- Arguments with the same scalars have one form.
-use Rattle.std.specs.Prelude.{◌≡◌, refl, ℕ, ◌<◌, zero, suc, List, [], ◌∷◌, ◌++◌, length, map, take, get_or, Option, None, Some, option_map, option_and_then, Result, Ok, Err}
+use Rattle.std.specs.Prelude.{◌≡◌, refl, ℕ, ◌<◌, zero, suc, List, [], ◌∷◌, length, map, get_or, Option, None, Some, option_map, option_and_then, Result, Err}
 use Rattle.std.proofs.Common.{ap, sym, subst, ◌∙◌, arith}
-use Rattle.tall_int.specs.declared.quotients.Rounding.{Rounding}
 use Rattle.tall_value.specs.declared.class.IntKind.{IntKind}
 use Rattle.tall_value.specs.declared.functions.Method.{Method}
 use Rattle.tall_value.specs.declared.functions.Method.TheVariants.{Count}
-use Rattle.tall_value.specs.declared.functions.Reduction.{Reduction}
 use Rattle.tall_value.specs.declared.operators.Binary.TheVariants.{Idivide}
 use Rattle.tall_value.specs.Cells.{Seen, whole}
 use Rattle.tall_value.specs.Classes.{greatest, least}
-use Rattle.tall_local.specs.Applications.{Application, application, constant, to_one, to_two, Operation, reduce, height, scan, head, tail, distinct, groups, unary, groups_of, groups_by, sum_of, sum_with, text_of, choice_of, count_of}
+use Rattle.tall_local.specs.Applications.{Application, application, constant, to_one, to_two, Operation, reduce, height, scan, head, tail, distinct, groups, unary, groups_of, groups_by, sum_with, text_of, choice_of, count_of}
 use Rattle.tall_local.specs.Functions.{sum_options, integer_classes, roundings, methods}
 use Rattle.tall_local.specs.Lists.{all_of, in_front_of}
 use Rattle.tall_local.specs.Memory.{Memory, scalar_in}

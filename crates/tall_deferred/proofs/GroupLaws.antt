@@ -16,23 +16,20 @@ use Rattle.tall_semantics.specs.Faults.{At}
 use Rattle.tall_semantics.specs.Operations.{group, Part, keys, counts, values}
 use Rattle.tall_semantics.specs.Talls.{Tall}
 use Rattle.tall_local.specs.Lists.{each_of}
-use Rattle.tall_local.specs.MemoryFunctions.{if_distinct, paired}
-use Rattle.tall_local.specs.Refusals.{Refusal, bad_argument, and_then}
+use Rattle.tall_local.specs.MemoryFunctions.{paired}
+use Rattle.tall_local.specs.Refusals.{Refusal, bad_argument}
 use Rattle.tall_local.specs.Values.{tall_table}
 use Rattle.tall_functions.specs.Summaries.{names_with}
 use Rattle.tall_graph.specs.Vertices.{part_of}
-use Rattle.tall_script.specs.ScriptValues.{TallValue, computed, group_columns, parts_of, summary_table}
+use Rattle.tall_script.specs.ScriptValues.{computed, parts_of, summary_table}
 use Rattle.tall_script.specs.VertexLaws.{vertex, Adds, of_groups, IsLower}
 use Rattle.tall_script.proofs.VerticesAdded.{expression_follows}
-use Rattle.tall_deferred.specs.Answers.{Comes, Extends}
+use Rattle.tall_deferred.specs.Answers.{Extends}
 use Rattle.tall_deferred.specs.Faults.{IsDue}
 use Rattle.tall_deferred.specs.Groups.{zipped, group_vertices}
 use Rattle.tall_deferred.specs.Lists.{followed}
-use Rattle.tall_deferred.specs.Values.{IsVariable, value_at, variables_at}
+use Rattle.tall_deferred.specs.Values.{IsVariable, variables_at}
 use Rattle.tall_deferred.specs.declared.faults.ValueFault.{ValueFault}
-use Rattle.tall_deferred.specs.declared.values.ScriptValue.{ScriptValue}
-use Rattle.tall_deferred.specs.declared.values.Variable.{Variable}
-use Rattle.tall_deferred.proofs.Grown.{due_through}
 use Rattle.tall_deferred.proofs.RowLaws.{each_turn, each_stop, follow_at}
 
 -- ---- parts

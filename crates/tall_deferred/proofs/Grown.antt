@@ -1,5 +1,5 @@
 -- Graphs that grow: what is added, and what stays.
-use Rattle.std.specs.Prelude.{◌≡◌, refl, ℕ, ◌<◌, ◌≤◌, ◌+◌, Bool, true, false, List, [], ◌∷◌, ◌++◌, length, map, Result, Ok, Err, IfOk}
+use Rattle.std.specs.Prelude.{◌≡◌, refl, ℕ, ◌<◌, ◌+◌, List, [], ◌∷◌, ◌++◌, length, Result, Ok, Err, IfOk}
 use Rattle.std.specs.List.{All}
 use Rattle.std.proofs.Common.{ap, sym, subst, ◌∙◌, arith, append-nil, append_assoc}
 use Rattle.std.proofs.lemmas.List.{length-append}
@@ -11,11 +11,10 @@ use Rattle.tall_semantics.specs.Operations.{Op, constant, filter, Made, stored, 
 use Rattle.tall_semantics.specs.Talls.{Tall, Columns}
 use Rattle.tall_semantics.proofs.InOrderLaws.{meaning_kept}
 use Rattle.tall_local.specs.Refusals.{Refusal}
-use Rattle.tall_script.specs.VertexLaws.{vertex, Adds, one_operation, behind_a_scalar, over_columns, IsLower, MayFollow}
+use Rattle.tall_script.specs.VertexLaws.{vertex, one_operation, behind_a_scalar, over_columns, IsLower}
 use Rattle.tall_script.proofs.VerticesAdded.{expression_follows}
 use Rattle.tall_graph.specs.Later.{IsOperation}
-use Rattle.tall_script.specs.ScriptValues.{tall_answer}
-use Rattle.tall_deferred.specs.Answers.{Extends, IsPushed, Means, computed_of, node_at}
+use Rattle.tall_deferred.specs.Answers.{Extends, IsPushed, Means}
 use Rattle.tall_deferred.specs.Values.{IsInMemory, IsValue}
 use Rattle.tall_deferred.specs.declared.values.ScriptValue.{ScriptValue}
 use Rattle.tall_deferred.specs.declared.values.ScriptValue.TheVariants as kept

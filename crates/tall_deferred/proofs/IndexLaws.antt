@@ -1,7 +1,6 @@
 -- What is refused of an index, by what a graph tells of its node.
-use Rattle.std.specs.Prelude.{◌≡◌, refl, ℕ, Bool, true, false, if◌then◌else◌, Result, Ok, Err}
+use Rattle.std.specs.Prelude.{◌≡◌, refl, Bool, true, false, if◌then◌else◌, Result, Err}
 use Rattle.std.proofs.Common.{ap, sym, subst, ◌∙◌}
-use Rattle.tall_value.specs.declared.class.Class.{Class}
 use Rattle.tall_semantics.specs.Talls.{Tall}
 use Rattle.tall_local.specs.MemoryIndexing.{is_logical}
 use Rattle.tall_local.specs.Refusals.{Refusal, bad_class, bad_argument, incompatible}

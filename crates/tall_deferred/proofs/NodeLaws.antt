@@ -1,22 +1,19 @@
 -- A node more of a graph has the value of its operation, and a refused one has none.
-use Rattle.std.specs.Prelude.{◌≡◌, refl, ℕ, ◌<◌, false, List, [], ◌∷◌, ◌++◌, length, map, slice_get, get_or, Option, Some, Result, Ok, Err}
+use Rattle.std.specs.Prelude.{◌≡◌, refl, ℕ, List, [], ◌∷◌, ◌++◌, length, map, get_or, Result, Ok, Err}
 use Rattle.std.proofs.Common.{ap, sym, subst, ◌∙◌}
 use Rattle.std.proofs.lemmas.Option.{slice_get-get_or}
 use Rattle.tall_semantics.specs.Faults.{At}
 use Rattle.tall_semantics.specs.Operations.{Op, filter, Made, stored, operation}
-use Rattle.tall_semantics.specs.Outcomes.{Outcome}
 use Rattle.tall_semantics.specs.Shapes as shapes
 use Rattle.tall_semantics.specs.Talls.{Tall, Columns, tall, made_tall, with_shape, outcome, shapes as shapes_in}
 use Rattle.tall_semantics.specs.Deferred.{Vertex, AllBelow, IsMeaning}
 use Rattle.tall_semantics.specs.ShapesInOrder.{made_shape, shape_at, IsMade}
-use Rattle.tall_semantics.proofs.InOrderLaws.{meaning_kept, meaning_last}
+use Rattle.tall_semantics.proofs.InOrderLaws.{meaning_last}
 use Rattle.tall_semantics.proofs.ShapesInOrderLaws.{value_shape}
 use Rattle.tall_local.specs.Refusals.{Refusal}
-use Rattle.tall_script.specs.ScriptValues.{computed, refusal_of}
+use Rattle.tall_script.specs.ScriptValues.{refusal_of}
 use Rattle.tall_graph.specs.Later.{IsOperation}
 use Rattle.tall_deferred.specs.Answers.{Means, computed_of, node_at}
-use Rattle.tall_deferred.specs.Faults.{IsDue}
-use Rattle.tall_deferred.specs.declared.faults.ValueFault.{ValueFault}
 
 abbrev tall_answer : Result Tall shapes.ShapeRefusal → Result Tall Refusal
 tall_answer r = elim r [ Ok x ↦ Ok x | Err e ↦ Err (refusal_of e) ]

@@ -11,7 +11,7 @@ use Rattle.tall_semantics.specs.Additions.{MayAdd}
 use Rattle.tall_semantics.specs.Deferred.{Vertex, AllBelow}
 use Rattle.tall_semantics.specs.Faults.{At}
 use Rattle.tall_semantics.specs.Numbered.{never_fails}
-use Rattle.tall_semantics.specs.Operations.{Op, operation}
+use Rattle.tall_semantics.specs.Operations.{operation}
 use Rattle.tall_semantics.specs.Talls.{Tall}
 use Rattle.tall_local.specs.Lists.{each_of, ahead}
 use Rattle.tall_local.specs.Refusals.{Refusal}

@@ -1,19 +1,18 @@
 -- Numbers in turn are in the order of evaluation, and what an expression adds has its number.
-use Rattle.std.specs.Prelude.{◌≡◌, refl, ℕ, suc, ◌<◌, ◌≤◌, true, List, [], ◌∷◌, ◌++◌, length, map}
+use Rattle.std.specs.Prelude.{◌≡◌, ℕ, suc, ◌<◌, ◌≤◌, List, [], ◌∷◌, ◌++◌, length, map}
 use Rattle.std.specs.List.{All}
-use Rattle.std.proofs.Common.{ap, sym, subst, ◌∙◌, arith}
+use Rattle.std.proofs.Common.{sym, subst, ◌∙◌, arith}
 use Rattle.std.proofs.lemmas.List.Elements.{All-nil, All-cons, All-head, All-tail, All-append}
-use Rattle.tall_value.specs.Cells.{Seen}
 use Rattle.tall_value.specs.declared.functions.Method.{Method}
 use Rattle.tall_grammar.specs.Trees.{Tree, tree, Trees, no_trees, and_tree, Args, no_args, value_arg, colon_arg}
 use Rattle.tall_grammar.specs.Trees as trees
-use Rattle.tall_semantics.specs.Deferred.{Vertex, AllBelow}
+use Rattle.tall_semantics.specs.Deferred.{Vertex}
 use Rattle.tall_semantics.specs.Faults.{At}
-use Rattle.tall_semantics.specs.Operations.{Op, constant, group, Part, operation}
+use Rattle.tall_semantics.specs.Operations.{Op, constant, group, Part}
 use Rattle.tall_script.specs.NumberLaws.{AreInTurn, numbers_of, numbers_of_trees, numbers_of_args}
 use Rattle.tall_script.specs.VertexLaws.{vertex, Adds, one_operation, behind_a_scalar, over_columns, of_groups, IsLower}
 use Rattle.tall_script.proofs.LaterNumbers.{parted, up_to}
-use Rattle.tall_evaluate.specs.Orders.{AreInOrder, ArgsAreInOrder, first_number, last_number, own_number}
+use Rattle.tall_evaluate.specs.Orders.{first_number, last_number, own_number}
 use Rattle.tall_deferred.specs.Answers.{Extends}
 use Rattle.tall_deferred.specs.Values.{IsLent, IsValue, IsVariable}
 use Rattle.tall_deferred.specs.declared.values.ScriptRef.{ScriptRef}
@@ -21,7 +20,7 @@ use Rattle.tall_deferred.specs.declared.values.ScriptRef.TheVariants as lent
 use Rattle.tall_deferred.specs.declared.values.ScriptValue.{ScriptValue}
 use Rattle.tall_deferred.specs.declared.values.ScriptValue.TheVariants as kept
 use Rattle.tall_deferred.specs.declared.values.Variable.{Variable}
-use Rattle.tall_deferred.specs.Turns.{IsLater, IsInTurn, ArgsAreInTurn, IsAtMost}
+use Rattle.tall_deferred.specs.Turns.{IsInTurn, ArgsAreInTurn, IsAtMost}
 
 -- ---- numbers of expressions
 

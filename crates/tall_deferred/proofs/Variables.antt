@@ -1,14 +1,14 @@
 -- The variables of a tall table, by their names.
-use Rattle.std.specs.Prelude.{◌≡◌, refl, ℕ, ◌<◌, Bool, true, false, if◌then◌else◌, List, [], ◌∷◌, Option, None, Some, option_map, Result, Ok, Err}
+use Rattle.std.specs.Prelude.{◌≡◌, refl, ℕ, ◌<◌, Bool, true, false, if◌then◌else◌, List, [], ◌∷◌, Option, None, Some, option_map, Ok, Err}
 use Rattle.std.specs.List.{All}
 use Rattle.std.specs.Str.{bytes_eq}
 use Rattle.std.proofs.Common.{ap, sym, subst, ◌∙◌}
 use Rattle.std.proofs.lemmas.List.Elements.{All-head, All-tail}
 use Rattle.tall_semantics.specs.Talls.{Tall}
 use Rattle.tall_local.specs.Names.{named}
-use Rattle.tall_local.specs.Refusals.{Refusal, undefined, or_refuse}
+use Rattle.tall_local.specs.Refusals.{undefined, or_refuse}
 use Rattle.tall_script.specs.ScriptValues.{tall_variable}
-use Rattle.tall_deferred.specs.Values.{variable_at, variables_at, node_named, IsVariable}
+use Rattle.tall_deferred.specs.Values.{variables_at, node_named, IsVariable}
 use Rattle.tall_deferred.specs.declared.values.Variable.{Variable}
 
 chosen : {A B : Type 0} (g : A → B) (b : Bool) (x y : Option A) → option_map g (if b then x else y) ≡ (if b then option_map g x else option_map g y)

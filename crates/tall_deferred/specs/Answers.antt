@@ -1,17 +1,14 @@
 -- What answers a word of the definitions over a graph: for all columns and all solutions f of its equations.
-use Rattle.std.specs.Prelude.{ℕ, ◌≡◌, ◌<◌, List, [], ◌∷◌, ◌++◌, length, map, Result, Ok, Err, IfOk}
+use Rattle.std.specs.Prelude.{ℕ, ◌≡◌, List, [], ◌∷◌, ◌++◌, length, Result, Ok, Err}
 use Rattle.tall_semantics.specs.Deferred.{Vertex, IsMeaning}
 use Rattle.tall_semantics.specs.Faults.{At}
 use Rattle.tall_semantics.specs.Operations.{Made, stored, operation}
 use Rattle.tall_semantics.specs.Talls.{Tall, Columns}
 use Rattle.tall_local.specs.Refusals.{Refusal, bad_argument}
-use Rattle.tall_script.specs.ScriptValues.{TallValue, computed}
+use Rattle.tall_script.specs.ScriptValues.{computed}
 use Rattle.tall_script.specs.VertexLaws.{Adds}
 use Rattle.tall_deferred.specs.declared.faults.ValueFault.{ValueFault}
-use Rattle.tall_deferred.specs.declared.values.ScriptRef.{ScriptRef}
-use Rattle.tall_deferred.specs.declared.values.ScriptValue.{ScriptValue}
 use Rattle.tall_deferred.specs.Faults.{IsDue}
-use Rattle.tall_deferred.specs.Values.{value_at, lent_at, IsValue, IsLent}
 
 -- ---- values
 

@@ -1,6 +1,5 @@
 -- What a fault says that the definitions give. Want of memory may come at any time.
 use Rattle.std.specs.Prelude.{◌≡◌, Result, Err}
-use Rattle.tall_value.specs.declared.faults.ClassFault.{ClassFault}
 use Rattle.tall_local.specs.Refusals.{Refusal, undefined, mixed_class, bad_class, incompatible, bad_size, bad_argument, bad_index, failed}
 use Rattle.tall_deferred.specs.declared.faults.ValueFault.{ValueFault}
 use Rattle.tall_deferred.specs.declared.faults.ValueFault.TheVariants as fault

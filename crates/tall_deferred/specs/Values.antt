@@ -2,10 +2,14 @@
 use Rattle.std.specs.Prelude.{ℕ, ◌<◌, if◌then◌else◌, List, [], ◌∷◌, map, Option, None, Some, Vec}
 use Rattle.std.specs.Str.{bytes_eq}
 use Rattle.std.specs.List.{All}
+use Rattle.std.specs.declared.alloc.Global.{Global}
+use Rattle.std.specs.declared.rc.Rc.{Rc}
 use Rattle.tall_semantics.specs.Faults as semantics
 use Rattle.tall_semantics.specs.Talls.{Tall}
 use Rattle.tall_local.specs.Arguments.{Index, rows_at, all_variables_at}
 use Rattle.tall_local.specs.Values.{datastore, tall_table, deferred, in_memory}
+use Rattle.tall_local.specs.Memory.{Memory}
+use Rattle.tall_memory.specs.declared.values.MemoryValue.{MemoryValue}
 use Rattle.tall_memory.specs.Values.{ref_seen, value_seen}
 use Rattle.tall_script.specs.ScriptValues.{TallValue}
 use Rattle.tall_deferred.specs.declared.values.At.{At}
@@ -29,11 +33,18 @@ variables_at f xs = map (variable_at f) xs
 abbrev pub columns_at : {Z : Type 0} → (ℕ → Tall) → Vec Variable Z → List (List ℕ × Tall)
 columns_at f xs = variables_at f xs.items
 
+-- a value in memory that is shared
+abbrev pub Shared : Type 0
+Shared = Rc MemoryValue Global
+
+abbrev pub shared_seen : Shared → Memory
+shared_seen v = value_seen v.value
+
 abbrev pub value_at : (ℕ → Tall) → ScriptValue → TallValue
 value_at f (kept.Datastore place) = datastore place
 value_at f (kept.Table xs) = tall_table (variables_at f xs.items)
 value_at f (kept.Tall n) = deferred (f n)
-value_at f (kept.Memory v) = in_memory (value_seen v)
+value_at f (kept.Memory v) = in_memory (shared_seen v)
 
 abbrev pub lent_at : (ℕ → Tall) → ScriptRef → TallValue
 lent_at f (lent.Datastore place) = datastore place

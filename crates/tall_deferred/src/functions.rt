@@ -119,7 +119,7 @@ fn operation_value(
     ensures given { Means graph.new value_at (λ f. operation_value (at_seen at) (operation_seen op.now) (lent_at f v.now)) result }
 {
     match v {
-        ScriptRef::Memory(v) => in_memory(memory_operation(alloc, op, v)),
+        ScriptRef::Memory(v) => in_memory(alloc, memory_operation(alloc, op, v)),
         ScriptRef::Tall(x) => tall_operation(graph, at, op, *x),
         ScriptRef::Table(variables) => table_operation(alloc, graph, at, op, variables),
         ScriptRef::Datastore(_) => Err(ValueFault::BadClass),
@@ -184,7 +184,7 @@ fn application_value(
     ensures given { Means graph.new value_at (λ f. application_value (at_seen at) (with_operands (map (lent_at f) args.now) (application_seen application.now))) result }
 {
     match application {
-        Application::Constant(c) => in_memory(MemoryValue::scalar(alloc, c)),
+        Application::Constant(c) => in_memory(alloc, MemoryValue::scalar(alloc, c)),
         Application::ToOne(op, _) => on_first(alloc, graph, at, op, args),
         Application::ToTwo(op, _, _) => on_two(alloc, graph, at, *op, args),
     }

@@ -1,12 +1,11 @@
 //! Groups of the rows of a tall table (docs/LANGUAGE.md, functions: groupsummary).
-ghost use Rattle.std.specs.Prelude.{◌≡◌, ◌<◌, ◌++◌, ◌∷◌, [], IfOk, List, Ok, OnOk, ℕ, length, map, option_map, true};
+ghost use Rattle.std.specs.Prelude.{◌≡◌, ◌<◌, ◌++◌, ◌∷◌, [], IfOk, Ok, OnOk, ℕ, length, map, option_map};
 ghost use Rattle.std.specs.List.{All};
 ghost use Rattle.tall_value.specs.SummaryNames.{summary_names};
 ghost use Rattle.tall_value.specs.declared.functions.Method.TheVariants as method;
 ghost use Rattle.tall_value.specs.Names.{are_distinct};
 ghost use Rattle.tall_semantics.specs.Deferred.{AllBelow};
 ghost use Rattle.tall_semantics.specs.Talls.{Tall};
-ghost use Rattle.tall_local.specs.MemoryFunctions.{if_distinct, paired};
 ghost use Rattle.tall_local.specs.Refusals.{and_then};
 ghost use Rattle.tall_local.specs.Values.{tall_table};
 ghost use Rattle.tall_script.specs.ScriptValues as script;

@@ -175,7 +175,7 @@ fn memory_rows(
     match i {
         ScriptRef::Memory(i) => {
             let index = Index::Rows(lent_again(i));
-            in_memory(memory_index(alloc, v, &index))
+            in_memory(alloc, memory_index(alloc, v, &index))
         }
         ScriptRef::Tall(i) => Err(tall_rows_of_memory(graph, v, *i)),
         ScriptRef::Table(_) => Err(ValueFault::BadArgument),
@@ -197,7 +197,7 @@ fn memory_table_rows(
     match i {
         ScriptRef::Memory(i) => {
             let index = Index::AllVariables(lent_again(i));
-            in_memory(memory_index(alloc, v, &index))
+            in_memory(alloc, memory_index(alloc, v, &index))
         }
         ScriptRef::Tall(i) => Err(tall_rows_of_table(graph, v, *i)),
         ScriptRef::Table(_) => Err(ValueFault::BadArgument),

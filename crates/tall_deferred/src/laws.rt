@@ -1,5 +1,5 @@
 //! Laws of numbers, for the evaluation of a script: each the contract of a function without a body.
-ghost use Rattle.std.specs.Prelude.{◌≡◌, ◌<◌, ◌≤◌, ℕ, List, suc};
+ghost use Rattle.std.specs.Prelude.{◌<◌, ◌≤◌, ℕ, List, suc};
 ghost use Rattle.std.specs.List.{All};
 ghost use Rattle.tall_grammar.specs.Grammar.{IsExpr};
 ghost use Rattle.tall_grammar.specs.Lexemes.{Lexeme};

@@ -1,13 +1,15 @@
 //! Operations over tall values, as nodes of a graph.
-ghost use Rattle.std.specs.Prelude.{◌≡◌, Err, IfOk, List, Result, ℕ, false, length, map};
+ghost use Rattle.std.specs.Prelude.{◌≡◌, Err, IfOk, Ok, Result, ℕ, false, length, map};
 ghost use Rattle.std.specs.List.{All};
 ghost use Rattle.tall_semantics.specs.Additions.{MayAdd};
-ghost use Rattle.tall_semantics.specs.Deferred.{AllBelow, Vertex};
+ghost use Rattle.tall_semantics.specs.Deferred.{AllBelow};
 ghost use Rattle.tall_semantics.specs.Talls.{Tall};
 ghost use Rattle.tall_local.specs.Memory as memory;
 ghost use Rattle.tall_local.specs.Refusals.{Refusal};
+ghost use Rattle.tall_local.specs.Values as of_values;
 ghost use Rattle.tall_local.specs.Values.{memory_answer};
 ghost use Rattle.tall_memory.specs.Values as values;
+ghost use Rattle.tall_memory.specs.Values.{value_seen};
 ghost use Rattle.tall_script.specs.ScriptValues.{refusal_of, tall_answer};
 ghost use Rattle.tall_script.specs.VertexLaws.{IsLower};
 ghost use Rattle.tall_graph.specs.Later.{IsOperation};
@@ -19,6 +21,7 @@ ghost use Rattle.tall_deferred.specs.Values.{IsInMemory, IsValue, at_seen, value
 
 use crate::faults::{ValueFault, of_memory};
 use crate::values::{At, ScriptValue};
+use std::alloc::Global;
 use tall_graph::{Graph, GraphFault, NodeId, NodeOp};
 use tall_memory::{MemoryFault, MemoryValue};
 
@@ -76,13 +79,27 @@ pub(crate) fn deferring(
     }
 }
 
+/// A value in memory.
+fn shared(alloc: Global, value: MemoryValue) -> Result<ScriptValue, ValueFault>
+    ensures within { IfOk result IsInMemory }
+    ensures given { (f : ℕ → Tall) → Comes (value_at f) (Ok (of_values.in_memory (value_seen value))) result }
+{
+    match ScriptValue::in_memory(alloc, value) {
+        Ok(value) => Ok(value),
+        Err(_) => Err(ValueFault::Memory),
+    }
+}
+
 /// The answer of what is computed at once.
-pub(crate) fn in_memory(answer: Result<MemoryValue, MemoryFault>) -> Result<ScriptValue, ValueFault>
+pub(crate) fn in_memory(
+    alloc: Global,
+    answer: Result<MemoryValue, MemoryFault>,
+) -> Result<ScriptValue, ValueFault>
     ensures within { IfOk result IsInMemory }
     ensures given { (f : ℕ → Tall) (want : Result memory.Memory Refusal) → values.Gives want answer → Comes (value_at f) (memory_answer want) result }
 {
     match answer {
-        Ok(value) => Ok(ScriptValue::Memory(value)),
+        Ok(value) => shared(alloc, value),
         Err(fault) => Err(of_memory(fault)),
     }
 }

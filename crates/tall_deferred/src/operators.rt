@@ -1,5 +1,5 @@
 //! Operators over values of a script (docs/LANGUAGE.md, operators).
-ghost use Rattle.std.specs.Prelude.{◌≡◌, ◌<◌, IfOk, ℕ, length, map};
+ghost use Rattle.std.specs.Prelude.{◌≡◌, ◌<◌, IfOk, ℕ, length};
 ghost use Rattle.std.specs.List.{All};
 ghost use Rattle.tall_value.specs.Cells.{seen};
 ghost use Rattle.tall_semantics.specs.Deferred.{IsMeaning};
@@ -40,7 +40,7 @@ pub(crate) fn unary_value(
     ensures given { Means graph.new value_at (λ f. unary_value (at_seen at) op (lent_at f v.now)) result }
 {
     match v {
-        ScriptRef::Memory(v) => in_memory(memory_unary(alloc, op, v)),
+        ScriptRef::Memory(v) => in_memory(alloc, memory_unary(alloc, op, v)),
         ScriptRef::Tall(x) => deferring(graph, at, NodeOp::Unary(op), &[*x]),
         ScriptRef::Table(_) => Err(ValueFault::BadClass),
         ScriptRef::Datastore(_) => Err(ValueFault::BadClass),
@@ -211,7 +211,7 @@ fn after_memory(
     ensures given { Means graph.new value_at (λ f. binary_value (at_seen at) op (in_memory (ref_seen v.now)) (lent_at f w.now)) result }
 {
     match w {
-        ScriptRef::Memory(w) => in_memory(memory_binary(alloc, op, v, w)),
+        ScriptRef::Memory(w) => in_memory(alloc, memory_binary(alloc, op, v, w)),
         ScriptRef::Tall(y) => memory_and_tall(alloc, graph, at, op, v, *y),
         ScriptRef::Table(_) => Err(ValueFault::BadClass),
         ScriptRef::Datastore(_) => Err(ValueFault::BadClass),

@@ -1,6 +1,6 @@
 //! The rows of tall columns and of tall tables that stay: the first, the last, or those that a mask keeps (docs/LANGUAGE.md,
 //! operators and functions).
-ghost use Rattle.std.specs.Prelude.{◌≡◌, IfOk, length, map};
+ghost use Rattle.std.specs.Prelude.{IfOk, length, map};
 ghost use Rattle.std.specs.List.{All};
 ghost use Rattle.tall_semantics.specs.Additions.{MayAdd};
 ghost use Rattle.tall_script.specs.ScriptValues.{computed, over_columns, table_answer};

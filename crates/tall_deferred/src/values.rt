@@ -1,11 +1,13 @@
 //! Values of a script, kept and lent.
-ghost use Rattle.std.specs.Prelude.{◌≡◌, ◌++◌, ◌∷◌, [], OnOk, ℕ};
+ghost use Rattle.std.specs.Prelude.{◌≡◌, ◌++◌, ◌∷◌, [], IfOk, OnOk, ℕ};
 ghost use Rattle.tall_value.specs.Cells.{seen};
 ghost use Rattle.tall_semantics.specs.Talls.{Tall};
-ghost use Rattle.tall_memory.specs.Values.{ref_seen};
-ghost use Rattle.tall_deferred.specs.Values.{IsLent, IsValue, lent_at, value_at};
+ghost use Rattle.tall_local.specs.Values.{in_memory};
+ghost use Rattle.tall_memory.specs.Values.{ref_seen, value_seen};
+ghost use Rattle.tall_deferred.specs.Values.{IsInMemory, IsLent, IsValue, lent_at, value_at};
 
 use std::alloc::{AllocError, Global};
+use std::rc::Rc;
 use tall_graph::NodeId;
 use tall_memory::{MemoryRef, MemoryValue};
 use tall_value::{Cell, Name};
@@ -33,8 +35,8 @@ pub enum ScriptValue {
     Table(Vec<Variable>),
     /// A tall column or a tall scalar.
     Tall(NodeId),
-    /// A value in memory.
-    Memory(MemoryValue),
+    /// A value in memory, which a name shares with what uses it.
+    Memory(Rc<MemoryValue>),
 }
 
 /// A value of a script that is lent: an operand, an argument, what a name stands for.
@@ -58,6 +60,17 @@ pub enum ScriptIndex<'a> {
 }
 
 impl ScriptValue {
+    /// A value in memory; there may be no memory to share it.
+    pub fn in_memory(alloc: Global, value: MemoryValue) -> Result<ScriptValue, AllocError>
+        ensures memory { IfOk result IsInMemory }
+        ensures value { (f : ℕ → Tall) → IfOk result (λ v. value_at f v ≡ in_memory (value_seen value)) }
+    {
+        match Rc::new(alloc, value) {
+            Ok(shared) => Ok(ScriptValue::Memory(shared)),
+            Err(_) => Err(AllocError),
+        }
+    }
+
     /// The value, lent.
     pub fn lend(&self) -> ScriptRef<'_>
         ensures value { (f : ℕ → Tall) → lent_at f result ≡ value_at f self.now }

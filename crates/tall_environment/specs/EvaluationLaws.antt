@@ -73,7 +73,7 @@ module _ {S : Type 0} (s : shelf.Ghosts S) (n : ℕ) where
     moves = moves_computed s n want old new answer now h;
     within = kept (length new.graph) h.within;
     last = if_ok r h.last;
-    tells = λ files told short columns f sense.
+    tells = λ files told columns f sense.
         answers_at (value_at f) line (want files f) r (state_at f old) (state_at f new) (ap (state_at f) h.same) (answers f (want files f) (h.given files columns f sense.stored sense.solved));
     blames = inside_all s now now r inside;
   }
@@ -85,7 +85,7 @@ module _ {S : Type 0} (s : shelf.Ghosts S) (n : ℕ) where
     moves = h.moves;
     within = h.within;
     last = h.last;
-    tells = λ files told short columns f sense. subst (λ w. Answers (value_at f) w r (state_at f new)) (same files f) (h.tells files told short columns f sense);
+    tells = λ files told columns f sense. subst (λ w. Answers (value_at f) w r (state_at f new)) (same files f) (h.tells files told columns f sense);
     blames = h.blames;
   }
 
@@ -98,7 +98,7 @@ module _ {S : Type 0} (s : shelf.Ghosts S) (n : ℕ) where
     moves = moves_none s env now;
     within = tt;
     last = tt;
-    tells = λ files told short columns f sense. record {
+    tells = λ files told columns f sense. record {
       agrees = λ stop is. stopped files f stop is;
       unfinished = λ d is none. opens files f (ap stop_of (same_failure e d is) ∙ none);
     };

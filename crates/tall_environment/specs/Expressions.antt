@@ -13,18 +13,16 @@ use Rattle.tall_local.specs.Arguments.{value_given}
 use Rattle.tall_local.specs.Expressions.{Valued, arguments, gives, go_on}
 use Rattle.tall_local.specs.Lists.{all_of}
 use Rattle.tall_local.specs.Memory.{Memory}
-use Rattle.tall_memory.specs.declared.values.MemoryValue.{MemoryValue}
-use Rattle.tall_memory.specs.Values.{value_seen}
 use Rattle.tall_script.specs.ScriptLanguage.{Setting, script_language}
 use Rattle.tall_script.specs.ScriptValues.{TallValue}
 use Rattle.tall_deferred.specs.declared.values.ScriptValue.{ScriptValue}
-use Rattle.tall_deferred.specs.Values.{IsValue, value_at}
+use Rattle.tall_deferred.specs.Values.{IsValue, Shared, shared_seen, value_at}
 use Rattle.tall_script.specs.States.{Openings, State}
 use Rattle.tall_local.specs.StateLaws.{state_after}
 use Rattle.tall_evaluate.specs.Senses.{Agrees}
 use Rattle.tall_environment.specs.declared.failures.Failure.{Failure}
 use Rattle.tall_environment.specs.Environments.{IsLast, SeenEnvironment, state_at}
-use Rattle.tall_environment.specs.Failures.{AreShort, Blames, stop_of}
+use Rattle.tall_environment.specs.Failures.{Blames, stop_of}
 use Rattle.tall_environment.specs.Moves.{Moves}
 
 abbrev pub setting_in : Files → List Function → Setting
@@ -45,10 +43,9 @@ pub record Answers {W V : Type 0} (shown : W → V) (want : Valued V (State Tall
   pub agrees : Agrees shown stop_of want r t
   pub unfinished : (e : Failure) → r ≡ Err e → stop_of e ≡ None → OpensOn t (state_after want)
 
--- where the shelf tells its files, and none is too long: whatever the values mean, the answer and the state that is left are
--- those of the definitions
+-- where the shelf tells its files: whatever the values mean, the answer and the state that is left are those of the definitions
 abbrev pub Tells : {S W V : Type 0} → shelf.Ghosts S → (before : S) → ((ℕ → Tall) → W → V) → (Files → (ℕ → Tall) → State Tall → Valued V (State Tall)) → (old new : SeenEnvironment) → Result W Failure → Type 0
-Tells s before shown want old new r = (files : Files) → s.held before ≡ Some files → AreShort files → (columns : Columns) (f : ℕ → Tall)
+Tells s before shown want old new r = (files : Files) → s.held before ≡ Some files → (columns : Columns) (f : ℕ → Tall)
     → IsSense files new columns f → Answers (shown f) (want files f (state_at f old)) r (state_at f new)
 
 -- an expression with this number was evaluated, between two moments of the shelf
@@ -71,8 +68,8 @@ abbrev pub found_at : {Z : Type 0} → (ℕ → Tall) → Option (Vec ScriptValu
 found_at f None = None
 found_at f (Some vs) = Some (values_at f vs.items)
 
-abbrev pub memories_at : {Z : Type 0} → (ℕ → Tall) → Vec MemoryValue Z → List Memory
-memories_at f ms = map value_seen ms.items
+abbrev pub memories_at : {Z : Type 0} → (ℕ → Tall) → Vec Shared Z → List Memory
+memories_at f ms = map shared_seen ms.items
 
 abbrev pub AreValues : {Z : Type 0} → (n : ℕ) → Option (Vec ScriptValue Z) → Type 0
 AreValues n None = Unit {0}

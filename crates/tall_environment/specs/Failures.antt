@@ -1,8 +1,9 @@
 -- What a failure names, and what it blames.
-use Rattle.std.specs.Prelude.{◌≡◌, ◌≢◌, ◌<◌, ◌≤◌, ◌^◌, ℕ, List, length, Option, None, Some, IfSome, Result, Ok, Err, ⊤}
+use Rattle.std.specs.Prelude.{◌≡◌, ◌≢◌, ◌<◌, ◌^◌, ℕ, List, Option, None, Some, Result, Ok, Err, ⊤}
 use Rattle.tall_outside.specs.declared.shelf.Shelf as shelf
 use Rattle.tall_outside.specs.Count.{Rose}
-use Rattle.tall_outside.specs.Shelf.{Files, file_in, openings_of}
+use Rattle.tall_outside.specs.Shelf.{Files, openings_of}
+use Rattle.tall_store.specs.FileEnds.{IsTooLong}
 use Rattle.tall_local.specs.Refusals as refusal
 use Rattle.tall_local.specs.Refusals.{Stop, stop_at}
 use Rattle.tall_environment.specs.declared.failures.Refusal.{Refusal}
@@ -53,10 +54,6 @@ AnswersAt view line want (Err e) = Refuses line want e
 
 -- ---- causes
 
--- each file may be read whole by one opening
-abbrev pub AreShort : Files → Type 0
-AreShort files = (name : List ℕ) → IfSome (file_in files name) (λ bytes. length bytes ≤ 2 ^ 50)
-
 -- a name was opened since, where the shelf tells
 abbrev pub IsOpened : {S : Type 0} → shelf.Ghosts S → List ℕ → (before now : S) → Type 0
 IsOpened s name before now = (names all : List (List ℕ)) → s.opened before ≡ Some names → s.opened now ≡ Some all → openings_of name names < openings_of name all
@@ -71,10 +68,9 @@ abbrev pub Blames : {S : Type 0} → shelf.Ghosts S → Failure → (before now 
 Blames s (failure.Refused line e) before now = IsBlamed s e before now
 Blames s (failure.Read name) before now = Rose (s.faults before) (s.faults now) × IsOpened s name before now
 Blames s (failure.TooLarge name) before now = (2 ^ 50 < s.came now) × IsOpened s name before now
-    × ((files : Files) → s.held before ≡ Some files → IfSome (file_in files name) (λ bytes. 2 ^ 50 < length bytes))
-    × ((files : Files) → s.held before ≡ Some files → AreShort files → ⊥)
+    × ((files : Files) → s.held before ≡ Some files → IsTooLong files name)
 Blames s (failure.Changed name first last) before now = (first ≢ last) × IsOpened s name before now
-    × ((files : Files) → s.held before ≡ Some files → AreShort files → ⊥)
+    × ((files : Files) → s.held before ≡ Some files → ⊥)
 Blames s failure.Memory before now = ⊤
 
 -- a failure that blames nothing

@@ -20,7 +20,7 @@ use Rattle.tall_environment.specs.declared.failures.Failure.{Failure}
 use Rattle.tall_environment.specs.declared.failures.Failure.TheVariants as failure
 use Rattle.tall_environment.specs.Computations.{Computes}
 use Rattle.tall_environment.specs.Environments.{SeenEnvironment}
-use Rattle.tall_environment.specs.Failures.{AreShort, Blames, IsBlamed, IsInside, IsOpened, IsWithin}
+use Rattle.tall_environment.specs.Failures.{Blames, IsBlamed, IsInside, IsOpened, IsWithin}
 use Rattle.tall_environment.specs.Moves.{HaveDistinctFiles, Moves, Opens, OpensMore, OpensWithin}
 
 at_least : (n : ℕ) → n ≤ n
@@ -76,8 +76,8 @@ opens_none s old new now e k = record {
   more = [];
   allowed = e ∙ sym (append-nil old.opened);
   grows = more_same (s.opened now);
-  distinct = λ files told short h. subst HaveDistinctFiles (sym k) h;
-  within = λ files told short h. none_opened (s.opened now);
+  distinct = λ files told h. subst HaveDistinctFiles (sym k) h;
+  within = λ files told h. none_opened (s.opened now);
 }
 
 both_opened : {S : Type 0} (s : shelf.Ghosts S) (a b c : SeenEnvironment) (x y z : S) → s.held y ≡ s.held x → Opens s a b x y → Opens s b c y z → Opens s a c x z
@@ -85,9 +85,9 @@ both_opened s a b c x y z held h k = record {
   more = h.more ++ k.more;
   allowed = k.allowed ∙ (ap (λ os. os ++ k.more) h.allowed ∙ append_assoc a.opened h.more k.more);
   grows = more_both (s.opened x) (s.opened y) (s.opened z) h.grows k.grows;
-  distinct = λ files told short are. k.distinct files (held ∙ told) short (h.distinct files told short are);
-  within = λ files told short are.
-      both_within h.more k.more (s.opened x) (s.opened y) (s.opened z) h.grows (h.within files told short are) (k.within files (held ∙ told) short (h.distinct files told short are));
+  distinct = λ files told are. k.distinct files (held ∙ told) (h.distinct files told are);
+  within = λ files told are.
+      both_within h.more k.more (s.opened x) (s.opened y) (s.opened z) h.grows (h.within files told are) (k.within files (held ∙ told) (h.distinct files told are));
 }
 
 -- ---- moves
@@ -120,7 +120,7 @@ moves_both s a b c x y z h k = record {
 -- more openings are allowed, and the shelf was opened within these
 pub moves_opened : {S : Type 0} (s : shelf.Ghosts S) (old new : SeenEnvironment) (more : List Openings) (before now : S) → new ≡ record old { opened = old.opened ++ more }
     → s.held now ≡ s.held before → IsLater (shelf_counts s before) (shelf_counts s now) → OpensMore (s.opened before) (s.opened now)
-    → ((files : Files) → s.held before ≡ Some files → AreShort files → HaveDistinctFiles old.stores → OpensWithin more (s.opened before) (s.opened now))
+    → ((files : Files) → s.held before ≡ Some files → HaveDistinctFiles old.stores → OpensWithin more (s.opened before) (s.opened now))
     → Moves s old new before now
 moves_opened s old new more before now same held counts grows within = record {
   names = ap (λ (e : SeenEnvironment). e.names) same;
@@ -133,7 +133,7 @@ moves_opened s old new more before now same held counts grows within = record {
     more = more;
     allowed = ap (λ (e : SeenEnvironment). e.opened) same;
     grows = grows;
-    distinct = λ files told short h. subst (λ (e : SeenEnvironment). HaveDistinctFiles e.stores) (sym same) h;
+    distinct = λ files told h. subst (λ (e : SeenEnvironment). HaveDistinctFiles e.stores) (sym same) h;
     within = within;
   };
 }
@@ -162,21 +162,21 @@ distinct_more [] d h k (suc place) x there = absurd (cc)
 distinct_more (c ∷ cs) d h k zero x there = h zero x there
 distinct_more (c ∷ cs) d h k (suc place) x there = distinct_more cs d (λ p y e. h (suc p) y e) k place x there
 
--- it lists no file twice, where the shelf tells its files, and none is too long
+-- it lists no file twice, where the shelf tells its files
 pub opens_made : {S : Type 0} (s : shelf.Ghosts S) (old new : SeenEnvironment) (d : Store) (now : S) → new ≡ record old { stores = old.stores ++ d ∷ [] }
-    → ((files : Files) → s.held now ≡ Some files → AreShort files → HaveDistinctFiles old.stores → are_distinct d.store.files ≡ true)
+    → ((files : Files) → s.held now ≡ Some files → HaveDistinctFiles old.stores → are_distinct d.store.files ≡ true)
     → Opens s old new now now
 opens_made s old new d now same distinct = record {
   more = [];
   allowed = ap (λ (e : SeenEnvironment). e.opened) same ∙ sym (append-nil old.opened);
   grows = more_same (s.opened now);
-  distinct = λ files told short h. subst (λ (e : SeenEnvironment). HaveDistinctFiles e.stores) (sym same) (distinct_more old.stores d h (distinct files told short h));
-  within = λ files told short h. none_opened (s.opened now);
+  distinct = λ files told h. subst (λ (e : SeenEnvironment). HaveDistinctFiles e.stores) (sym same) (distinct_more old.stores d h (distinct files told h));
+  within = λ files told h. none_opened (s.opened now);
 }
 
 pub moves_made : {S : Type 0} (s : shelf.Ghosts S) (old new : SeenEnvironment) (d : Store) (now : S) → new ≡ record old { stores = old.stores ++ d ∷ [] }
     → ((files : Files) (columns : Columns) → AreStored files new.stores new.graph columns → AreStored files old.stores old.graph columns)
-    → ((files : Files) → s.held now ≡ Some files → AreShort files → HaveDistinctFiles old.stores → are_distinct d.store.files ≡ true)
+    → ((files : Files) → s.held now ≡ Some files → HaveDistinctFiles old.stores → are_distinct d.store.files ≡ true)
     → Moves s old new now now
 moves_made s old new d now same stored distinct = record {
   names = ap (λ (e : SeenEnvironment). e.names) same;
@@ -229,7 +229,7 @@ module _ {S : Type 0} (s : shelf.Ghosts S) (a b : SeenEnvironment) (x y z : S) (
   pub blamed_later : (e : Failure) → Blames s e y z → Blames s e x z
   blamed_later (failure.Refused line e) k = refused_later e k
   blamed_later (failure.Read name) k = (rose_later (s.faults x) (s.faults y) (s.faults z) h.counts.faults k.0, opened_later s a b x y z name h.opens k.1)
-  blamed_later (failure.TooLarge name) k = (k.0, opened_later s a b x y z name h.opens k.1, λ files told. k.2 files (h.held ∙ told), λ files told. k.3 files (h.held ∙ told))
+  blamed_later (failure.TooLarge name) k = (k.0, opened_later s a b x y z name h.opens k.1, λ files told. k.2 files (h.held ∙ told))
   blamed_later (failure.Changed name first last) k = (k.0, opened_later s a b x y z name h.opens k.1, λ files told. k.2 files (h.held ∙ told))
   blamed_later failure.Memory k = tt
 

@@ -9,7 +9,6 @@ use Rattle.tall_semantics.specs.Talls.{Columns, Tall}
 use Rattle.tall_stored.specs.StoredColumns.{AreStored, Store}
 use Rattle.tall_script.specs.States.{Openings, times_allowed}
 use Rattle.tall_environment.specs.Environments.{SeenEnvironment}
-use Rattle.tall_environment.specs.Failures.{AreShort}
 
 -- where the shelf tells which names were opened, it goes on telling, and none is taken back
 abbrev pub OpensMore : (before now : Option (List (List ℕ))) → Type 0
@@ -23,14 +22,13 @@ OpensWithin more before now = (names all : List (List ℕ)) → before ≡ Some 
 abbrev pub HaveDistinctFiles : List Store → Type 0
 HaveDistinctFiles stores = (place : ℕ) (d : Store) → slice_get stores place ≡ Some d → are_distinct d.store.files ≡ true
 
--- more is allowed now; where the shelf tells its files, and none is too long, no more was opened, and datastores still list no
--- file twice
+-- more is allowed now; where the shelf tells its files, no more was opened, and datastores still list no file twice
 pub record Opens {S : Type 0} (s : shelf.Ghosts S) (old new : SeenEnvironment) (before now : S) : Type 0 where
   pub more : List Openings
   pub allowed : new.opened ≡ old.opened ++ more
   pub grows : OpensMore (s.opened before) (s.opened now)
-  pub distinct : (files : Files) → s.held before ≡ Some files → AreShort files → HaveDistinctFiles old.stores → HaveDistinctFiles new.stores
-  pub within : (files : Files) → s.held before ≡ Some files → AreShort files → HaveDistinctFiles old.stores → OpensWithin more (s.opened before) (s.opened now)
+  pub distinct : (files : Files) → s.held before ≡ Some files → HaveDistinctFiles old.stores → HaveDistinctFiles new.stores
+  pub within : (files : Files) → s.held before ≡ Some files → HaveDistinctFiles old.stores → OpensWithin more (s.opened before) (s.opened now)
 
 pub record Moves {S : Type 0} (s : shelf.Ghosts S) (old new : SeenEnvironment) (before now : S) : Type 0 where
   pub names : new.names ≡ old.names

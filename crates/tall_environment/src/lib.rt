@@ -15,4 +15,4 @@ mod values;
 pub use arguments::values_lent;
 pub use environment::Environment;
 pub use failures::{Failure, Refusal, at_line, refused};
-pub use values::{copied, copied_value};
+pub use values::{copied, shared};

@@ -1,7 +1,5 @@
-//! Copies of values.
-ghost use Rattle.std.specs.Prelude.{◌≡◌, ◌<◌, ℕ, IfOk, Ok, get_or, length, map};
-ghost use Rattle.std.specs.List.{All};
-ghost use Rattle.tall_local.specs.Values.{datastore};
+//! Values once more: shared, or copied where they are lent.
+ghost use Rattle.std.specs.Prelude.{◌≡◌, ℕ, IfOk, Ok};
 ghost use Rattle.tall_semantics.specs.Talls.{Tall};
 ghost use Rattle.tall_memory.specs.Values.{Gives, ref_seen};
 ghost use Rattle.tall_deferred.specs.Answers.{Comes};
@@ -62,25 +60,23 @@ pub fn copied(alloc: Global, v: &ScriptRef<'_>) -> Result<ScriptValue, ValueFaul
         }
         ScriptRef::Tall(node) => Ok(ScriptValue::Tall(*node)),
         ScriptRef::Memory(v) => match copied_memory(alloc, v) {
-            Ok(value) => Ok(ScriptValue::Memory(value)),
+            Ok(value) => Ok(ScriptValue::in_memory(alloc, value)?),
             Err(_) => Err(ValueFault::Memory),
         },
     }
 }
 
-/// The first of values that are lent, copied; there is one.
-fn copied_first(alloc: Global, values: &[ScriptRef<'_>]) -> Result<ScriptValue, ValueFault>
-    requires { 0 < length values.now }
-    ensures within { (n : ℕ) → All (IsLent n) values.now → IfOk result (IsValue n) }
-    ensures given { (f : ℕ → Tall) → Comes (value_at f) (Ok (get_or (map (lent_at f) values.now) 0 (datastore 0))) result }
-{
-    copied(alloc, &values[0])
-}
-
-/// A value, copied.
-pub fn copied_value(alloc: Global, v: &ScriptValue) -> Result<ScriptValue, ValueFault>
+/// A value once more: one in memory is shared and not copied.
+pub fn shared(alloc: Global, v: &ScriptValue) -> Result<ScriptValue, ValueFault>
     ensures within { (n : ℕ) → IsValue n v.now → IfOk result (IsValue n) }
     ensures given { (f : ℕ → Tall) → Comes (value_at f) (Ok (value_at f v.now)) result }
 {
-    copied_first(alloc, &[v.lend()])
+    match v {
+        ScriptValue::Datastore(place) => Ok(ScriptValue::Datastore(*place)),
+        ScriptValue::Table(variables) => {
+            Ok(ScriptValue::Table(copied_variables(alloc, variables.as_slice())?))
+        }
+        ScriptValue::Tall(node) => Ok(ScriptValue::Tall(*node)),
+        ScriptValue::Memory(value) => Ok(ScriptValue::Memory(value.clone()?)),
+    }
 }

@@ -75,7 +75,7 @@ module _ {S : Type 0} (s : shelf.Ghosts S) (l m : Evaluation S) (n : ℕ) (r : R
   told : (i : Sense) → Holds s i m → Answers (value_at i.meaning) (due i (state_at i.meaning l.environment.now)) r (state_at i.meaning m.environment.now)
   told i holds =
       subst (λ w. Answers (value_at i.meaning) w r (state_at i.meaning m.environment.now)) (is i holds)
-      (h.tells i.setting.files (sym h.moves.held ∙ holds.told) holds.short i.columns i.meaning (record { stored = holds.stored; solved = holds.solved }))
+      (h.tells i.setting.files (sym h.moves.held ∙ holds.told) i.columns i.meaning (record { stored = holds.stored; solved = holds.solved }))
 
   evaluated_does : DoesValue (script_senses {S = S} s) due l m r
   evaluated_does = record {
@@ -175,12 +175,11 @@ module _ {S : Type 0} (s : shelf.Ghosts S) (l m : Evaluation S) (n line : ℕ) (
 module _ {S W V : Type 0} (s : shelf.Ghosts S) (l m : Evaluation S) (Fits : Evaluation S → W → Type 0) (shown : (ℕ → Tall) → W → V) (want : Setting → State Tall → Valued V (State Tall)) (r : Result W Failure) where
   pub tells_all : Does (script_senses {S = S} s) Fits (λ i w. shown i.meaning w) (λ i t. want i.setting t) l m r
       → Tells s l.shelf.now shown (λ files f t. want (setting_in files l.functions.now) t) l.environment.now m.environment.now r
-  tells_all h files told short columns f sense =
+  tells_all h files told columns f sense =
       let i : Sense = record { setting = setting_in files l.functions.now; columns = columns; meaning = f } in
       let holds : Holds s i m = record {
         told = h.later.moves.held ∙ told;
         functions = ap (λ fs. map routine_of fs.now) (sym h.later.functions);
-        short = short;
         stored = sense.stored;
         solved = sense.solved;
       } in

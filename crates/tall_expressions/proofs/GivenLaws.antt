@@ -89,12 +89,12 @@ module _ {S : Type 0} (Z : Type 0) (s : shelf.Ghosts S) (l m : Evaluation S) (ar
     pub found_tells : (given : Vec (Argument ScriptValue) Z) (r : Result (Option (Vec ScriptValue X)) Failure) → EvaluatesArguments (Ok given)
         → ((f : ℕ → Tall) → IfOk r (λ found. found_at f found ≡ all_of value_given (arguments_at f given.items))) → IfErr r (λ e. e ≡ failure.Memory)
         → Tells s l.shelf.now found_at (λ files f t. given_values (setting_in files l.functions.now) args t) l.environment.now new r
-    found_tells given r h found memory files told short columns f sense =
+    found_tells given r h found memory files told columns f sense =
         found_values (given_arguments (script_language (setting_in files l.functions.now)) args false (state_at f l.environment.now)) (arguments_at f given.items) (found_at f) r (state_at f new)
-        (arguments_tell new (Ok given) same h files told short columns f sense).agrees (found f) memory
+        (arguments_tell new (Ok given) same h files told columns f sense).agrees (found f) memory
 
     pub stopped_tells : (e : Failure) → EvaluatesArguments (Err e)
         → Tells {W = Option (Vec ScriptValue X)} s l.shelf.now found_at (λ files f t. given_values (setting_in files l.functions.now) args t) l.environment.now new (Err e)
-    stopped_tells e h files told short columns f sense =
+    stopped_tells e h files told columns f sense =
         stopped_values (given_arguments (script_language (setting_in files l.functions.now)) args false (state_at f l.environment.now)) e (state_at f new)
-        (λ (given : Vec (Argument ScriptValue) Z). arguments_at f given.items) (found_at f) (arguments_tell new (Err e) same h files told short columns f sense)
+        (λ (given : Vec (Argument ScriptValue) Z). arguments_at f given.items) (found_at f) (arguments_tell new (Err e) same h files told columns f sense)

@@ -19,7 +19,7 @@ use Rattle.tall_expressions.specs.declared.evaluation.Evaluation.{Evaluation}
 use Rattle.tall_environment.specs.declared.failures.Failure.{Failure}
 use Rattle.tall_environment.specs.Environments.{IsLast, IsNext, state_at}
 use Rattle.tall_environment.specs.Expressions.{OpensOn}
-use Rattle.tall_environment.specs.Failures.{AreShort, Blames, stop_of}
+use Rattle.tall_environment.specs.Failures.{Blames, stop_of}
 use Rattle.tall_environment.specs.Moves.{Moves}
 
 -- the files and the functions of a script, the columns of its graph, and what its nodes are
@@ -28,12 +28,11 @@ pub record Sense : Type 0 where
   pub columns : Columns
   pub meaning : ℕ → Tall
 
--- the files are those that the shelf tells, and short; the columns are those of the datastores over them; the meaning solves
+-- the files are those that the shelf tells; the columns are those of the datastores over them; the meaning solves
 -- the graph
 pub record Holds {S : Type 0} (s : shelf.Ghosts S) (i : Sense) (l : Evaluation S) : Type 0 where
   pub told : s.held l.shelf.now ≡ Some i.setting.files
   pub functions : i.setting.functions ≡ map routine_of l.functions.now
-  pub short : AreShort i.setting.files
   pub stored : AreStored i.setting.files l.environment.now.stores l.environment.now.graph i.columns
   pub solved : IsMeaning i.columns l.environment.now.graph i.meaning
 

@@ -30,7 +30,6 @@ module _ {S : Type 0} (s : shelf.Ghosts S) where
   held_before l m i h k = record {
     told = sym h.moves.held ∙ k.told;
     functions = k.functions ∙ ap (λ fs. map routine_of fs.now) h.functions;
-    short = k.short;
     stored = h.moves.stored i.setting.files i.columns k.stored;
     solved = h.moves.meant i.columns i.meaning k.solved;
   }

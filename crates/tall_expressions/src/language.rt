@@ -7,7 +7,7 @@ ghost use Rattle.tall_evaluate.specs.Senses.{ArgumentsFit, DoesValue};
 ghost use Rattle.tall_deferred.specs.Values.{IsValue, value_at};
 
 use crate::evaluation::Evaluation;
-use crate::lookups::{member_of, scalar, undefined_name, value_named};
+use crate::lookups::{list, member_of, scalar, undefined_name, value_named};
 use crate::names::{function_named, is_there, takes_handles};
 use tall_column::Texts;
 use tall_deferred::{At, ScriptValue};
@@ -16,7 +16,6 @@ use tall_evaluate::{Argument, Language, Place};
 use tall_grammar::{Infix, Prefix};
 use tall_int::Whole;
 use tall_local::ScriptFunction;
-use tall_memory::MemoryValue;
 use tall_outside::Shelf;
 use tall_value::{Cell, Name, Text};
 
@@ -55,7 +54,7 @@ impl<'e, S: Shelf> Language for Evaluation<'e, S> {
     }
 
     fn list(&self, values: Texts) -> Result<ScriptValue, Failure> {
-        Ok(ScriptValue::Memory(MemoryValue::Texts(values)))
+        at_line(0, list(self.alloc, values))
     }
 
     fn name(&self, line: u32, name: &Name) -> Result<ScriptValue, Failure> {

@@ -2,7 +2,7 @@
 ghost use Rattle.std.specs.Prelude.{◌≡◌, Err, IfOk, None, Ok, Result, length, ℕ};
 ghost use Rattle.tall_value.specs.Cells.{seen};
 ghost use Rattle.tall_semantics.specs.Talls.{Tall};
-ghost use Rattle.tall_local.specs.Memory.{scalar};
+ghost use Rattle.tall_local.specs.Memory.{scalar, texts};
 ghost use Rattle.tall_local.specs.Names.{named};
 ghost use Rattle.tall_local.specs.Refusals as refusal;
 ghost use Rattle.tall_local.specs.Values.{in_memory};
@@ -14,9 +14,10 @@ ghost use Rattle.tall_environment.specs.Environments.{names_at};
 ghost use Rattle.tall_environment.specs.Failures.{IsInside, Refuses};
 
 use std::alloc::Global;
+use tall_column::Texts;
 use tall_deferred::{ScriptValue, ValueFault, member_value};
-use tall_environment::{Environment, Failure, Refusal, copied, copied_value};
-use tall_memory::{MemoryRef, MemoryValue, constant_named};
+use tall_environment::{Environment, Failure, Refusal, copied, shared};
+use tall_memory::{MemoryValue, constant_named};
 use tall_value::{Cell, Name};
 
 /// The failure of a name that stands for nothing; want of memory where it cannot be kept.
@@ -53,9 +54,17 @@ pub(crate) fn scalar(alloc: Global, c: &Cell<'_>) -> Result<ScriptValue, ValueFa
     ensures given { (f : ℕ → Tall) → Comes (value_at f) (Ok (in_memory (scalar (seen c.now)))) result }
 {
     match MemoryValue::scalar(alloc, c) {
-        Ok(value) => Ok(ScriptValue::Memory(value)),
+        Ok(value) => Ok(ScriptValue::in_memory(alloc, value)?),
         Err(_) => Err(ValueFault::Memory),
     }
+}
+
+/// A list of texts in memory.
+pub(crate) fn list(alloc: Global, values: Texts) -> Result<ScriptValue, ValueFault>
+    ensures within { (n : ℕ) → IfOk result (IsValue n) }
+    ensures given { (f : ℕ → Tall) → Comes (value_at f) (Ok (in_memory (texts values))) result }
+{
+    Ok(ScriptValue::in_memory(alloc, MemoryValue::Texts(values))?)
 }
 
 /// What a name stands for.
@@ -68,7 +77,7 @@ pub(crate) fn value_named(
     ensures given { (f : ℕ → Tall) → Comes (value_at f) (read_name name.now (named (names_at f environment.now.names) name.now)) result }
 {
     match environment.value(name) {
-        Some(value) => copied_value(alloc, value),
+        Some(value) => shared(alloc, value),
         None => constant(alloc, name),
     }
 }

@@ -23,7 +23,7 @@ pub free : (e : GatherFault) (list : List Store) (f : ℕ → Tall) (roots : Lis
 free (Data x) list f roots h = absurd h
 free (Reading store g) list f roots h = absurd h
 free (Read store file) list f roots h = tt
-free (TooLarge store file) list f roots h = h
+free (TooLarge store file) list f roots h = tt
 free (Changed store file first now) list f roots h = h
 free Memory list f roots h = tt
 

@@ -106,7 +106,6 @@ module _ (columns : Columns) (vs : List Vertex) (f : ℕ → Tall) (made : IsMad
   given ns an =
       let w = told.same pass.store store at in
       record {
-        short = told.short pass.store store at;
         there = ap (slice_get list) is.store ∙ w.1;
         same = w.2;
         stored = told.stored;
@@ -145,6 +144,6 @@ module _ (columns : Columns) (vs : List Vertex) (f : ℕ → Tall) (made : IsMad
           let a : d.at ≡ record { number = r.number; line = r.line } = of_variable d v (record { number = r.number; line = r.line }) v.made i there e refl o ea in
           sym (ap (λ (x : At). fault_of_reading pass.store x g) a ∙ (ap (λ x. fault_of_reading pass.store (record { number = r.number; line = r.line }) x) (sym eg) ∙ ap (λ n. fault_of_reading n (record { number = r.number; line = r.line }) r.fault) (sym es)))
   tells now right some (Err (pass_fault.Read file)) result b adds same t = subst (Told (set counts pass.store now)) (sym b) tt
-  tells now right some (Err (pass_fault.TooLarge file)) result b adds same t = absurd t
+  tells now right some (Err (pass_fault.TooLarge file)) result b adds same t = subst (Told (set counts pass.store now)) (sym b) tt
   tells now right some (Err (pass_fault.Changed file first last)) result b adds same t = absurd t
   tells now right some (Err pass_fault.Memory) result b adds same t = subst (Told (set counts pass.store now)) (sym b) tt

@@ -71,7 +71,7 @@ TellsGather list f roots (Ok columns) = (least_in f roots ≡ None) × ((j i : �
 TellsGather list f roots (Err (Data x)) = least_in f roots ≡ Some (fault_seen x)
 TellsGather list f roots (Err (Reading store g)) = (d : Store) × (slice_get list store ≡ Some d) × (least_in f roots ≡ Some (fault_of_reading store d.at g))
 TellsGather list f roots (Err (Read store file)) = ⊤
-TellsGather list f roots (Err (TooLarge store file)) = ⊥
+TellsGather list f roots (Err (TooLarge store file)) = ⊤
 TellsGather list f roots (Err (Changed store file first now)) = ⊥
 TellsGather list f roots (Err Memory) = ⊤
 

@@ -1,12 +1,12 @@
 -- What the calls of a gather do to the shelf, and what an answer blames.
-use Rattle.std.specs.Prelude.{◌≡◌, ◌≢◌, ◌<◌, ◌≤◌, ◌^◌, ◌+◌, ◌==◌, if◌then◌else◌, ◌⊎◌, ℕ, zero, suc, Option, None, Some, Result, Ok, Err, List, [], ◌∷◌, length, slice_get, IfSome, ⊤}
+use Rattle.std.specs.Prelude.{◌≡◌, ◌≢◌, ◌<◌, ◌≤◌, ◌^◌, ◌+◌, ◌==◌, if◌then◌else◌, ◌⊎◌, ℕ, zero, suc, Option, None, Some, Result, Ok, Err, List, [], ◌∷◌, length, slice_get, ⊤}
 use Rattle.tall_outside.specs.declared.shelf.Shelf as shelf
 use Rattle.tall_outside.specs.Count.{Rose}
-use Rattle.tall_outside.specs.Shelf.{Files, file_in, openings_of}
+use Rattle.tall_outside.specs.Shelf.{Files, openings_of}
 use Rattle.tall_outside.specs.ShelfCounts.{Counts, IsLater, shelf_counts}
 use Rattle.tall_value.specs.declared.faults.ReadingKind.TheVariants.{NoFile}
 use Rattle.tall_store.specs.declared.faults.ReadingFault.{ReadingFault}
-use Rattle.tall_store.specs.FileEnds.{name_of_file}
+use Rattle.tall_store.specs.FileEnds.{IsTooLong, name_of_file}
 use Rattle.tall_store.specs.Stores.{SeenStore}
 use Rattle.tall_plan.specs.declared.passes.Pass.{Pass}
 use Rattle.tall_walk.specs.Placed.{IsColumn}
@@ -55,7 +55,7 @@ IsOpened s list store file before now = (d : SeenStore) × (slice_get list store
 
 abbrev pub IsLongFile : Files → Option SeenStore → (file : ℕ) → Type 0
 IsLongFile files None file = ⊤
-IsLongFile files (Some d) file = IfSome (file_in files (name_of_file d file)) (λ bytes. 2 ^ 50 < length bytes)
+IsLongFile files (Some d) file = IsTooLong files (name_of_file d file)
 
 -- a reading fault names a file of its datastore, and a variable where it is a field's; that a file isn't there is counted
 pub record IsReadingOf (list : List SeenStore) (store : ℕ) (g : ReadingFault) (before after : Counts) : Type 0 where

@@ -18,18 +18,16 @@ use Rattle.tall_fuse.specs.declared.known.Known.{Known}
 use Rattle.tall_plan.specs.declared.passes.Pass.{Pass}
 use Rattle.tall_pass.specs.Counts.{AreCounted}
 use Rattle.tall_pass.specs.PassPlans.{IsBelowAt}
-use Rattle.tall_pass.specs.Told.{AreRight, AreShort, defined_carry}
+use Rattle.tall_pass.specs.Told.{AreRight, defined_carry}
 use Rattle.tall_gather.specs.declared.candidate.Candidate.{Candidate}
 use Rattle.tall_gather.specs.declared.faults.GatherFault.{GatherFault}
 use Rattle.tall_gather.specs.declared.faults.GatherFault.TheVariants.{Data, Reading, Read, TooLarge, Changed, Memory}
 use Rattle.tall_gather.specs.Candidates.{seen}
 use Rattle.tall_gather.specs.Progress.{InPasses}
 
--- the datastores are those of the list with the numbers of their calls, each of their files may be read whole by one
--- opening, and the columns are those of the files
+-- the datastores are those of the list with the numbers of their calls, and the columns are those of the files
 pub record IsTold (files : Files) (stores : List Store) (columns : Columns) (vs : List Vertex) (f : ℕ → Tall) (list : List SeenStore) : Type 0 where
   pub same : (s : ℕ) (x : SeenStore) → slice_get list s ≡ Some x → (d : Store) × (slice_get stores s ≡ Some d) × (d.store ≡ x)
-  pub short : (s : ℕ) (x : SeenStore) → slice_get list s ≡ Some x → AreShort files x.files
   pub stored : AreStored files stores vs columns
   pub meaning : IsMeaning columns vs f
 
@@ -60,7 +58,7 @@ abbrev pub IsFree : GatherFault → Type 0
 IsFree (Data f) = ⊥
 IsFree (Reading store f) = ⊥
 IsFree (Read store file) = ⊤
-IsFree (TooLarge store file) = ⊥
+IsFree (TooLarge store file) = ⊤
 IsFree (Changed store file first now) = ⊥
 IsFree Memory = ⊤
 

@@ -91,7 +91,7 @@ unfolding map_reduced
 not_mapped files d f g (map.At line row kind) m = (ap (λ r. elim r [ Ok pairs ↦ reduced_table (reduce_phase g pairs (distinct_keys pairs) []) | Err stop ↦ Err stop ]) m.0, m.1)
 not_mapped files d f g (map.Reading fault) m = ap (λ r. elim r [ Ok pairs ↦ reduced_table (reduce_phase g pairs (distinct_keys pairs) []) | Err stop ↦ Err stop ]) m
 not_mapped files d f g (map.Read file) m = tt
-not_mapped files d f g (map.TooLarge file) m = absurd m
+not_mapped files d f g (map.TooLarge file) m = tt
 not_mapped files d f g map.Memory m = tt
 
 pub mapped_told : (files : Files) (d : Store) (f g : SeenFunction) (pairs : List Pair) (r : Answer) → Maps files d f (Ok pairs) → Tells d (reduced_table (reduce_phase g pairs (distinct_keys pairs) [])) r → Tells d (map_reduced files d f g) r

@@ -25,7 +25,7 @@ use Rattle.tall_walk.specs.OneFile.{IsOfFile}
 use Rattle.tall_walk.specs.Placed.{IsColumn}
 use Rattle.tall_walk.specs.declared.ends.WalkEnd.{WalkEnd}
 use Rattle.tall_walk.specs.declared.ends.WalkEnd.TheVariants as end
-use Rattle.tall_walk.specs.Walked.{AreShort, MeetsFault, OfFiles, StopsAt, Walked, WalksAll}
+use Rattle.tall_walk.specs.Walked.{MeetsFault, StopsAt, Walked, WalksAll}
 use Rattle.tall_walk.specs.Walked as walk
 use Rattle.tall_walk.proofs.FaultLaws.{IsOfData, IsThere, block_fault}
 use Rattle.tall_walk.proofs.Walks.{blocks_append}
@@ -282,16 +282,16 @@ ends_at apart d f store files blocks rest fault same ends tables =
 
 -- ---- where the shelf tells
 
-told_of : (store : SeenStore) (held : Option Files) (files : Files) (P : Files → Type 0) → OfFiles store held P → held ≡ Some files → AreShort files store.files → P files
-told_of store None files P o h short = absurd (none-some files h)
-told_of store (Some fs) files P o h short = subst P (same h) (o (subst (λ f. AreShort f store.files) (sym (same h)) short))
+told_of : (held : Option Files) (files : Files) (P : Files → Type 0) → IfSome held P → held ≡ Some files → P files
+told_of None files P o h = absurd (none-some files h)
+told_of (Some fs) files P o h = subst P (same h) o
   where
     same : Some fs ≡ Some files → fs ≡ files
     same e = cc
 
-told_more : (store : SeenStore) (held : Option Files) (A B : Files → Type 0) → ((files : Files) → A files → B files) → OfFiles store held A → OfFiles store held B
-told_more store None A B f t = tt
-told_more store (Some files) A B f t = λ short. f files (t short)
+told_more : (held : Option Files) (A B : Files → Type 0) → ((files : Files) → A files → B files) → IfSome held A → IfSome held B
+told_more None A B f t = tt
+told_more (Some files) A B f t = f files t
 
 -- ---- what an answer says
 
@@ -301,7 +301,7 @@ EndsPhase store f e files = (d : Store) → d.store ≡ store → EndsWith d (ma
 -- a fault in what was taken
 pub record SaysTaken (store : SeenStore) (f : SeenFunction) (held : Option Files) (e : MapFault) : Type 0 where
   pub of : IsOfPhase store e
-  pub told : OfFiles store held (EndsPhase store f e)
+  pub told : IfSome held (EndsPhase store f e)
 
 -- a reading fault of a file itself
 pub record SaysReading (store : SeenStore) (f : SeenFunction) (held : Option Files) (opened : ℕ) (how : WalkEnd MapFault) (g : ReadingFault) : Type 0 where
@@ -309,29 +309,29 @@ pub record SaysReading (store : SeenStore) (f : SeenFunction) (held : Option Fil
   pub below : g.file < opened
   pub first : ℕ
   pub own : IsOfFile g.file first g
-  pub told : OfFiles store held (EndsPhase store f (map.Reading g))
+  pub told : IfSome held (EndsPhase store f (map.Reading g))
 
 -- a fault of a file
 abbrev SaysFile : SeenStore → SeenFunction → Option Files → (opened : ℕ) → WalkEnd MapFault → MapFault → Type 0
 SaysFile store f held opened how (map.At line row kind) = ⊥
 SaysFile store f held opened how (map.Reading g) = SaysReading store f held opened how g
 SaysFile store f held opened how (map.Read file) = (how ≡ end.Read file) × (file < opened)
-SaysFile store f held opened how (map.TooLarge file) = (how ≡ end.TooLarge file) × (file < opened) × OfFiles store held (λ files. ⊥)
+SaysFile store f held opened how (map.TooLarge file) = (how ≡ end.TooLarge file) × (file < opened)
 SaysFile store f held opened how map.Memory = Unit {0}
 
 abbrev pub Says : SeenStore → SeenFunction → Option Files → (opened : ℕ) → WalkEnd MapFault → Result (List Pair) MapFault → Type 0
-Says store f held opened how (Ok pairs) = OfFiles store held (λ files. (d : Store) → d.store ≡ store → map_phase d f (block_tables d.store files) [] ≡ Ok pairs)
+Says store f held opened how (Ok pairs) = IfSome held (λ files. (d : Store) → d.store ≡ store → map_phase d f (block_tables d.store files) [] ≡ Ok pairs)
 Says store f held opened how (Err e) = SaysTaken store f held e ⊎ SaysFile store f held opened how e
 
 module _ (apart : MapsApart) (o : Option Given) (g : Given) (at : o ≡ Some g) (held : Option Files) where
   -- of blocks that are the first of all
-  taken_says : (opened : ℕ) (how : WalkEnd MapFault) (events : List Event) (e : MapFault) → EndsTaken o events e → OfFiles g.store held (λ files. (rest : Tables) × AreTables g.store files (map (block_table g.store) (blocks_in events) ++ rest))
+  taken_says : (opened : ℕ) (how : WalkEnd MapFault) (events : List Event) (e : MapFault) → EndsTaken o events e → IfSome held (λ files. (rest : Tables) × AreTables g.store files (map (block_table g.store) (blocks_in events) ++ rest))
       → Says g.store g.function held opened how (Err e)
   taken_says opened how events e ends tables =
       let h : EndsMap g (blocks_in events) e = subst (λ p. EndsTaken p events e) at ends in
       inl (record {
         of = h.0;
-        told = told_more g.store held (λ files. (rest : Tables) × AreTables g.store files (map (block_table g.store) (blocks_in events) ++ rest)) (EndsPhase g.store g.function e)
+        told = told_more held (λ files. (rest : Tables) × AreTables g.store files (map (block_table g.store) (blocks_in events) ++ rest)) (EndsPhase g.store g.function e)
             (λ files t d same. ends_at apart d g.function g.store files (blocks_in events) t.0 e same (h.1 d same) t.1) tables;
       })
 
@@ -340,11 +340,11 @@ module _ (apart : MapsApart) (o : Option Given) (g : Given) (at : o ≡ Some g) 
 
   says_whole : (P : List Event → Type 0) (opened : ℕ) (r : Result (List Pair) MapFault) → WalksAll P g.store held → EndsWhole P o r → Says g.store g.function held opened end.Whole r
   says_whole P opened (Ok pairs) w ends =
-      told_more g.store held (λ files. AreTables g.store files (map (block_table g.store) (blocks_in w.events))) (λ files. (d : Store) → d.store ≡ g.store → map_phase d g.function (block_tables d.store files) [] ≡ Ok pairs)
+      told_more held (λ files. AreTables g.store files (map (block_table g.store) (blocks_in w.events))) (λ files. (d : Store) → d.store ≡ g.store → map_phase d g.function (block_tables d.store files) [] ≡ Ok pairs)
       (λ files t d same. maps_all apart d g.function g.store files (blocks_in w.events) pairs same (mapped_at w.events pairs (ends w.events w.taken) d same) t) w.tables
   says_whole P opened (Err e) w ends =
       taken_says opened end.Whole w.events e (ends w.events w.taken)
-      (told_more g.store held (λ files. AreTables g.store files (map (block_table g.store) (blocks_in w.events))) (λ files. (rest : Tables) × AreTables g.store files (map (block_table g.store) (blocks_in w.events) ++ rest))
+      (told_more held (λ files. AreTables g.store files (map (block_table g.store) (blocks_in w.events))) (λ files. (rest : Tables) × AreTables g.store files (map (block_table g.store) (blocks_in w.events) ++ rest))
       (λ files t. ([], subst (AreTables g.store files) (sym (append-nil (map (block_table g.store) (blocks_in w.events)))) t)) w.tables)
 
   says_reading : (P : List Event → Type 0) (opened : ℕ) (f : ReadingFault) (r : Result (List Pair) MapFault) → MeetsFault P g.store held f → f.file < opened → EndsReading P o (map.Reading f) r → Says g.store g.function held opened (end.Reading f) r
@@ -354,14 +354,14 @@ module _ (apart : MapsApart) (o : Option Given) (g : Given) (at : o ≡ Some g) 
       by : EndsTaken o w.events e ⊎ ((e ≡ map.Reading f) × (pairs : List Pair) × MapsTaken o w.events pairs) → Says g.store g.function held opened (end.Reading f) (Err e)
       by (inl h) =
           taken_says opened (end.Reading f) w.events e h
-          (told_more g.store held (λ files. AreTables g.store files (map (block_table g.store) (blocks_in w.events) ++ Err f ∷ [])) (λ files. (rest : Tables) × AreTables g.store files (map (block_table g.store) (blocks_in w.events) ++ rest))
+          (told_more held (λ files. AreTables g.store files (map (block_table g.store) (blocks_in w.events) ++ Err f ∷ [])) (λ files. (rest : Tables) × AreTables g.store files (map (block_table g.store) (blocks_in w.events) ++ rest))
           (λ files t. (Err f ∷ [], t)) w.tables)
       by (inr h) = subst (λ x. Says g.store g.function held opened (end.Reading f) (Err x)) (sym h.0) (inr (record {
         is = refl;
         below = below;
         first = w.first;
         own = w.own;
-        told = told_more g.store held (λ files. AreTables g.store files (map (block_table g.store) (blocks_in w.events) ++ Err f ∷ [])) (EndsPhase g.store g.function (map.Reading f))
+        told = told_more held (λ files. AreTables g.store files (map (block_table g.store) (blocks_in w.events) ++ Err f ∷ [])) (EndsPhase g.store g.function (map.Reading f))
             (λ files t d same. meets_reading apart d g.function g.store files (blocks_in w.events) h.1 f same (mapped_at w.events h.1 h.2 d same) t) w.tables;
       }))
 
@@ -374,7 +374,7 @@ module _ (apart : MapsApart) (o : Option Given) (g : Given) (at : o ≡ Some g) 
   says P before now (end.Reading f) r w ends = says_reading P w.opened f r w.tells.0 w.tells.1 ends
   says P before now (end.Stopped e) r w ends = subst (Says g.store g.function held w.opened (end.Stopped e)) (sym ends) (says_stopped w.opened e w.tells)
   says P before now (end.Read file) r w ends = subst (Says g.store g.function held w.opened (end.Read file)) (sym ends) (inr (refl, w.tells))
-  says P before now (end.TooLarge file) r w ends = subst (Says g.store g.function held w.opened (end.TooLarge file)) (sym ends) (inr (refl, w.tells.0, w.tells.1))
+  says P before now (end.TooLarge file) r w ends = subst (Says g.store g.function held w.opened (end.TooLarge file)) (sym ends) (inr (refl, w.tells))
   says P before now end.Memory r w ends = subst (Says g.store g.function held w.opened end.Memory) (sym ends) (inr tt)
 
 -- what the taker has to have taken behind the walk
@@ -491,13 +491,12 @@ module _ (store : SeenStore) (f : SeenFunction) (held : Option Files) (opened : 
   placed (Err (map.TooLarge file)) is within (inr s) = tt
   placed (Err map.Memory) is within (inr s) = tt
 
-  pub told : (files : Files) (r : Result (List Pair) MapFault) → held ≡ Some files → AreShort files store.files → Says store f held opened how r → (d : Store) → d.store ≡ store → Maps files d f r
-  told files (Ok pairs) e short s d same = told_of store held files (λ files. (d : Store) → d.store ≡ store → map_phase d f (block_tables d.store files) [] ≡ Ok pairs) s e short d same
-  told files (Err (map.At line row kind)) e short (inl s) d same = told_of store held files (EndsPhase store f (map.At line row kind)) s.told e short d same
-  told files (Err (map.At line row kind)) e short (inr s) d same = absurd s
-  told files (Err (map.Reading g)) e short (inl s) d same = told_of store held files (EndsPhase store f (map.Reading g)) s.told e short d same
-  told files (Err (map.Reading g)) e short (inr s) d same = told_of store held files (EndsPhase store f (map.Reading g)) s.told e short d same
-  told files (Err (map.Read file)) e short s d same = tt
-  told files (Err (map.TooLarge file)) e short (inl s) d same = absurd s.of
-  told files (Err (map.TooLarge file)) e short (inr s) d same = absurd (told_of store held files (λ files. ⊥) s.2 e short)
-  told files (Err map.Memory) e short s d same = tt
+  pub told : (files : Files) (r : Result (List Pair) MapFault) → held ≡ Some files → Says store f held opened how r → (d : Store) → d.store ≡ store → Maps files d f r
+  told files (Ok pairs) e s d same = told_of held files (λ files. (d : Store) → d.store ≡ store → map_phase d f (block_tables d.store files) [] ≡ Ok pairs) s e d same
+  told files (Err (map.At line row kind)) e (inl s) d same = told_of held files (EndsPhase store f (map.At line row kind)) s.told e d same
+  told files (Err (map.At line row kind)) e (inr s) d same = absurd s
+  told files (Err (map.Reading g)) e (inl s) d same = told_of held files (EndsPhase store f (map.Reading g)) s.told e d same
+  told files (Err (map.Reading g)) e (inr s) d same = told_of held files (EndsPhase store f (map.Reading g)) s.told e d same
+  told files (Err (map.Read file)) e s d same = tt
+  told files (Err (map.TooLarge file)) e s d same = tt
+  told files (Err map.Memory) e s d same = tt

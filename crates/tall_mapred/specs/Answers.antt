@@ -1,5 +1,5 @@
 -- What mapreduce answers.
-use Rattle.std.specs.Prelude.{◌≡◌, ◌<◌, ◌≤◌, ◌^◌, ℕ, List, [], ◌∷◌, Option, Result, Ok, Err, IfSome, length, take, codes, ⊤}
+use Rattle.std.specs.Prelude.{◌≡◌, ◌<◌, ◌≤◌, ◌^◌, ℕ, List, [], ◌∷◌, Option, Result, Ok, Err, length, take, codes, ⊤}
 use Rattle.tall_column.specs.Columns.{SeenColumn}
 use Rattle.tall_local.specs.Memory.{table}
 use Rattle.tall_local.specs.Memory as memory
@@ -7,10 +7,10 @@ use Rattle.tall_local.specs.Pairs.{Pair}
 use Rattle.tall_local.specs.Refusals.{Stop, stop_at}
 use Rattle.tall_outside.specs.Count.{Rose}
 use Rattle.tall_outside.specs.OpenedNames.{Adds}
-use Rattle.tall_outside.specs.Shelf.{Files, file_in}
+use Rattle.tall_outside.specs.Shelf.{Files}
 use Rattle.tall_outside.specs.ShelfCounts.{Counts}
 use Rattle.tall_value.specs.declared.faults.ReadingKind.TheVariants.{NoFile}
-use Rattle.tall_store.specs.FileEnds.{name_of_file}
+use Rattle.tall_store.specs.FileEnds.{IsTooLong, name_of_file}
 use Rattle.tall_store.specs.Stores.{SeenStore}
 use Rattle.tall_script.specs.ReadingFaults.{stop_of_reading}
 use Rattle.tall_script.specs.States.{Store}
@@ -24,13 +24,13 @@ Answer = Result (List (List ℕ × SeenColumn)) MapFault
 
 -- ---- where the shelf tells its files
 
--- the table or the first fault; a file is never too large; a failing shelf and want of memory say nothing
+-- the table or the first fault; a failing shelf, a file that is too large and want of memory say nothing
 abbrev pub Tells : Store → Result memory.Memory Stop → Answer → Type 0
 Tells d want (Ok t) = want ≡ Ok (table t)
 Tells d want (Err (At line row kind)) = (want ≡ Err (stop_at line (refusal_at row kind))) × (row ≡ row_of (refusal_at row kind))
 Tells d want (Err (Reading g)) = want ≡ Err (stop_of_reading d g)
 Tells d want (Err (Read file)) = ⊤
-Tells d want (Err (TooLarge file)) = ⊥
+Tells d want (Err (TooLarge file)) = ⊤
 Tells d want (Err Memory) = ⊤
 
 -- ---- whatever the shelf tells
@@ -65,9 +65,9 @@ IsExplained (Err (Read file)) before after = Rose before.faults after.faults
 IsExplained (Err (TooLarge file)) before after = 2 ^ 50 < after.came
 IsExplained (Err Memory) before after = ⊤
 
--- a file that is too large is longer than one opening may be
+-- a file that is too large is there, and longer than one opening may be
 abbrev pub IsLonger : SeenStore → Files → Answer → Type 0
-IsLonger store files (Err (TooLarge file)) = IfSome (file_in files (name_of_file store file)) (λ bytes. 2 ^ 50 < length bytes)
+IsLonger store files (Err (TooLarge file)) = IsTooLong files (name_of_file store file)
 IsLonger store files answer = ⊤
 
 -- a reading fault is in a file of the datastore, and that of a field names a variable of it

@@ -93,13 +93,13 @@ pub record HasTaken (g : Given) (pairs : List Pair) (waiting : List FileBlock) (
 abbrev pub EndsMap : Given → List Block → MapFault → Type 0
 EndsMap g blocks fault = IsOfPhase g.store fault × ((d : Store) → d.store ≡ g.store → (rest : Wants) → EndsWith d (joined_results (map_wants d g.function blocks ++ rest) []) fault)
 
--- the pairs of all blocks, or the first fault, where the shelf tells; a file is never too large
+-- the pairs of all blocks, or the first fault, where the shelf tells
 abbrev pub Maps : Files → Store → SeenFunction → Result (List Pair) MapFault → Type 0
 Maps files d f (Ok pairs) = map_phase d f (block_tables d.store files) [] ≡ Ok pairs
 Maps files d f (Err (At line row kind)) = EndsWith d (map_phase d f (block_tables d.store files) []) (At line row kind)
 Maps files d f (Err (Reading g)) = EndsWith d (map_phase d f (block_tables d.store files) []) (Reading g)
 Maps files d f (Err (Read file)) = ⊤
-Maps files d f (Err (TooLarge file)) = ⊥
+Maps files d f (Err (TooLarge file)) = ⊤
 Maps files d f (Err Memory) = ⊤
 
 -- ---- the reduce phase

@@ -7,7 +7,6 @@ ghost use Rattle.tall_grammar.specs.Views.{routine_of};
 ghost use Rattle.tall_outside.specs.Shelf.{Files};
 ghost use Rattle.tall_outside.specs.ShelfCounts.{IsLater, shelf_counts};
 ghost use Rattle.tall_script.specs.States.{Store};
-ghost use Rattle.tall_walk.specs.Walked.{AreShort};
 ghost use Rattle.tall_mapred.specs.Answers.{IsExplained, IsLonger, IsPlaced, OpensFiles, answer_of};
 ghost use Rattle.tall_mapred.specs.Phases.{AreWaiting, Maps};
 ghost use Rattle.tall_mapred.specs.Pieces.{IsBlockPiece};
@@ -70,7 +69,7 @@ fn map_given<S: Shelf, C: Fn(&[FileBlock]) -> Result<Vec<CallPiece>, AllocError>
     requires asks { (blocks : Bor (List FileBlock)) → AreWaiting (length shared.now.store.now.files) blocks.now → length blocks.now ≤ 128 → C.pre call.now blocks }
     requires gives { (blocks : Bor (List FileBlock)) (r : Result (Vec CallPiece Global) AllocError) → AreWaiting (length shared.now.store.now.files) blocks.now → length blocks.now ≤ 128 → C.post call.now blocks r → IfOk r (λ v. AllZip (IsBlockPiece shared.now.store.now (routine_of shared.now.function.now)) blocks.now v.items) }
     requires given { K.given ≡ Some (shared_given shared.now) }
-    ensures told { (files : Files) → S.held shelf.old ≡ Some files → AreShort files shared.now.store.now.files → (d : Store) → d.store ≡ shared.now.store.now → Maps files d (routine_of shared.now.function.now) result }
+    ensures told { (files : Files) → S.held shelf.old ≡ Some files → (d : Store) → d.store ≡ shared.now.store.now → Maps files d (routine_of shared.now.function.now) result }
     ensures held { S.held shelf.new ≡ S.held shelf.old }
     ensures later { IsLater (shelf_counts S.Shelf shelf.old) (shelf_counts S.Shelf shelf.new) }
     ensures opens { OpensFiles shared.now.store.now.files (answer_of result) (S.opened shelf.old) (S.opened shelf.new) }
@@ -107,7 +106,7 @@ pub(crate) fn map_blocks<R: Threads + Sync, S: Shelf, G: Gate + Sync>(
 ) -> Result<Pairs, MapFault>
     requires some { 0 < workers }
     requires few { workers ≤ 64 }
-    ensures told { (files : Files) → S.held shelf.old ≡ Some files → AreShort files store.now.files → (d : Store) → d.store ≡ store.now → Maps files d (routine_of function.now) result }
+    ensures told { (files : Files) → S.held shelf.old ≡ Some files → (d : Store) → d.store ≡ store.now → Maps files d (routine_of function.now) result }
     ensures held { S.held shelf.new ≡ S.held shelf.old }
     ensures later { IsLater (shelf_counts S.Shelf shelf.old) (shelf_counts S.Shelf shelf.new) }
     ensures opens { OpensFiles store.now.files (answer_of result) (S.opened shelf.old) (S.opened shelf.new) }

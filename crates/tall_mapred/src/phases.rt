@@ -7,7 +7,6 @@ ghost use Rattle.tall_local.specs.Memory.{table};
 ghost use Rattle.tall_local.specs.Pairs.{distinct_keys};
 ghost use Rattle.tall_script.specs.MapReduce.{map_reduced, pairs_table, reduce_phase, reduced_table};
 ghost use Rattle.tall_script.specs.States.{Store};
-ghost use Rattle.tall_walk.specs.Walked.{AreShort};
 ghost use Rattle.tall_mapred.specs.Pieces.{IsOfFunctions};
 ghost use Rattle.tall_mapred.specs.Answers.{IsExplained, IsLonger, IsPairTable, IsPlaced, OpensFiles, Tells};
 
@@ -88,7 +87,7 @@ pub fn mapreduce<R: Threads + Sync, S: Shelf + Send, G: Gate + Sync>(
 ) -> Result<Table, MapFault>
     requires some { 0 < workers }
     requires few { workers ≤ 64 }
-    ensures told { (files : Files) → S.held shelf.old ≡ Some files → AreShort files store.now.files → (d : Store) → d.store ≡ store.now → Tells d (map_reduced files d (routine_of map.now) (routine_of reduce.now)) result }
+    ensures told { (files : Files) → S.held shelf.old ≡ Some files → (d : Store) → d.store ≡ store.now → Tells d (map_reduced files d (routine_of map.now) (routine_of reduce.now)) result }
     ensures table { IfOk result IsPairTable }
     ensures held { S.held shelf.new ≡ S.held shelf.old }
     ensures later { IsLater (shelf_counts S.Shelf shelf.old) (shelf_counts S.Shelf shelf.new) }

@@ -17,7 +17,6 @@ use Rattle.tall_piece.specs.declared.sums.Sums.{Sums}
 use Rattle.tall_piece.specs.declared.wanted.Wanted.{Wanted}
 use Rattle.tall_piece.specs.Passes.{PassOver, outcomes}
 use Rattle.tall_piece.specs.Pieces.{AreSums}
-use Rattle.tall_walk.specs.Walked as walk
 use Rattle.tall_pass.specs.declared.faults.PassFault.{PassFault}
 use Rattle.tall_pass.specs.declared.faults.PassFault.TheVariants.{Reading, Read, TooLarge, Changed, Memory}
 use Rattle.tall_pass.specs.Answered.{IsUnchanged}
@@ -26,15 +25,11 @@ use Rattle.tall_pass.specs.Finished.{Covers, IsFinished}
 use Rattle.tall_pass.specs.Fitting.{AreFit, CanRun}
 use Rattle.tall_pass.specs.PassPlans.{FitsStore}
 use Rattle.tall_pass.specs.Taken.{inputs}
-use Rattle.tall_pass.specs.Told.{AreShort, IsDone, IsGiven, Tells}
+use Rattle.tall_pass.specs.Told.{IsDone, IsGiven, Tells}
 use Rattle.tall_pass.specs.Walking.{AreSumsOf, WalkTells}
 use Rattle.tall_pass.specs.Work.{IsOverFiles, computed_of, pass_over, wanted_of}
 use Rattle.tall_pass.proofs.BlockLaws.{blocks_given, due_carries, old_carries, outcomes_are, own_work}
 use Rattle.tall_pass.proofs.OverLaws.{over_files}
-
-pub short_walk : (files : Files) (names : List (List ℕ)) → AreShort files names → walk.AreShort files names
-short_walk files [] s = tt
-short_walk files (name ∷ names) s = (s.0, short_walk files names s.1)
 
 pub unchanged : (k : Known) → IsUnchanged k k
 unchanged k = record { results = λ i. refl; carries = λ i b. refl }
@@ -47,7 +42,7 @@ pub tells_fault : (files : Files) (stores : List Store) (vs : List Vertex) (f : 
     → AreCounted files seen counts → WalkTells (inputs seen vs known all wanted) files counts (Err e) → Tells files stores vs f roots c pass seen (Err e) new
 tells_fault files stores vs f roots c pass seen known new all wanted counts (Reading g) counted t = t
 tells_fault files stores vs f roots c pass seen known new all wanted counts (Read file) counted t = tt
-tells_fault files stores vs f roots c pass seen known new all wanted counts (TooLarge file) counted t = t
+tells_fault files stores vs f roots c pass seen known new all wanted counts (TooLarge file) counted t = tt
 tells_fault files stores vs f roots c pass seen known new all wanted counts (Changed file first now) counted t = t counted
 tells_fault files stores vs f roots c pass seen known new all wanted counts Memory counted t = tt
 

@@ -1,6 +1,6 @@
 -- What the walk of a pass says, from how the walk over its files ended and what its taker had.
 use Rattle.std.proofs.Common.{ℕ, zero, suc, ◌≡◌, ◌≢◌, ◌∙◌, ◌<◌, ◌≤◌, ◌+◌, ◌^◌, inl, inr, List, [], ◌∷◌, ◌++◌, Ok, Err, Result, sym, ap, subst, refl, arith, length, map, get_or, take}
-use Rattle.std.specs.Prelude.{◌⊎◌, Option, Some, None, IfOk}
+use Rattle.std.specs.Prelude.{◌⊎◌, Option, Some, None, IfOk, IfSome}
 use Rattle.std.specs.Option.{option_or}
 use Rattle.std.proofs.lemmas.List.{append-nil}
 use Rattle.tall_outside.specs.Count.{Rose}
@@ -185,33 +185,33 @@ pub record SaysAll (w : Inputs) (first : List (Option ℕ)) (held : Option Files
   pub row : ℕ
   pub joins : JoinsAll w first events r
   pub walks : IsWalk 0 1 1 events (length w.store.files) row row
-  pub told : walk.OfFiles w.store held (λ files. (events ≡ all_events w.store files) × (blocks_in events ≡ all_blocks w.store files) × (first_fault w.store files ≡ first_in w.store events))
+  pub told : IfSome held (λ files. (events ≡ all_events w.store files) × (blocks_in events ≡ all_blocks w.store files) × (first_fault w.store files ≡ first_in w.store events))
 
 -- a reading fault, of a block or of a file itself
 pub record SaysReading (w : Inputs) (held : Option Files) (opened : ℕ) (how : WalkEnd PassFault) (g : ReadingFault) : Type 0 where
   pub below : g.file < opened
   pub of : IsThere g.kind ⊎ (how ≡ end.Reading g)
   pub column : IsColumn g.kind (length w.store.names) g.column
-  pub told : walk.OfFiles w.store held (λ files. first_fault w.store files ≡ Some g)
+  pub told : IfSome held (λ files. first_fault w.store files ≡ Some g)
 
 pub record SaysChanged (w : Inputs) (first : List (Option ℕ)) (held : Option Files) (opened file before now : ℕ) : Type 0 where
   pub below : file < opened
   pub known : count_at first file ≡ Some before
   pub other : before ≢ now
-  pub told : walk.OfFiles w.store held (λ files. now ≡ length (data_in w.store (file_in files (name_of_file w.store file))))
+  pub told : IfSome held (λ files. now ≡ length (data_in w.store (file_in files (name_of_file w.store file))))
 
 abbrev pub Says : Inputs → List (Option ℕ) → Option Files → (opened : ℕ) → WalkEnd PassFault → Result Walked PassFault → Type 0
 Says w first held opened how (Ok r) = SaysAll w first held r
 Says w first held opened how (Err (Reading g)) = SaysReading w held opened how g
 Says w first held opened how (Err (Read file)) = (how ≡ end.Read file) × (file < opened)
-Says w first held opened how (Err (TooLarge file)) = (how ≡ end.TooLarge file) × (file < opened) × walk.OfFiles w.store held (λ files. ⊥)
+Says w first held opened how (Err (TooLarge file)) = (how ≡ end.TooLarge file) × (file < opened)
 Says w first held opened how (Err (Changed file before now)) = SaysChanged w first held opened file before now
 Says w first held opened how (Err Memory) = Unit {0}
 
 -- where the shelf tells
-told_more : (store : SeenStore) (held : Option Files) (A B : Files → Type 0) → ((files : Files) → A files → B files) → walk.OfFiles store held A → walk.OfFiles store held B
-told_more store None A B f t = tt
-told_more store (Some files) A B f t = λ short. f files (t short)
+told_more : (held : Option Files) (A B : Files → Type 0) → ((files : Files) → A files → B files) → IfSome held A → IfSome held B
+told_more None A B f t = tt
+told_more (Some files) A B f t = f files t
 
 of_more : (m n : ℕ) (bs : List Block) → m ≤ n → AreOfFiles m bs → AreOfFiles n bs
 of_more m n [] l o = tt
@@ -226,14 +226,14 @@ of_append n (c ∷ bs) cs a b = (a.0, of_append n bs cs a.1 b)
 
 -- blocks end it
 says_blocks : (w : Inputs) (first : List (Option ℕ)) (held : Option Files) (opened : ℕ) (how : WalkEnd PassFault) (bs : List Block) (e : PassFault) → IsStore w.store → AreOfFiles opened bs
-    → walk.OfFiles w.store held (λ files. (g : ReadingFault) → first_in_blocks w.store bs ≡ Some g → first_fault w.store files ≡ Some g) → EndsBlocks w.store bs e → Says w first held opened how (Err e)
+    → IfSome held (λ files. (g : ReadingFault) → first_in_blocks w.store bs ≡ Some g → first_fault w.store files ≡ Some g) → EndsBlocks w.store bs e → Says w first held opened how (Err e)
 says_blocks w first held opened how bs (Reading g) is of told h =
     let i : IsWithin (length w.store.names) opened g = first_within w.store opened bs g is of h in
     record {
       below = i.file;
       of = inl i.there;
       column = i.column;
-      told = told_more w.store held (λ files. (g : ReadingFault) → first_in_blocks w.store bs ≡ Some g → first_fault w.store files ≡ Some g) (λ files. first_fault w.store files ≡ Some g) (λ files t. t g h) told;
+      told = told_more held (λ files. (g : ReadingFault) → first_in_blocks w.store bs ≡ Some g → first_fault w.store files ≡ Some g) (λ files. first_fault w.store files ≡ Some g) (λ files t. t g h) told;
     }
 says_blocks w first held opened how bs (Read file) is of told h = absurd h
 says_blocks w first held opened how bs (TooLarge file) is of told h = absurd h
@@ -259,14 +259,14 @@ of_stop events event file first row k m n w v = subst (AreOfFiles (file + 1)) (s
 
 says_changed : (w : Inputs) (first : List (Option ℕ)) (held : Option Files) (opened file before now : ℕ) (events : List Event) (event : Event) (at from row k m n : ℕ) → IsOther first events event file before now
     → IsWalk 0 1 1 events at from row → IsWalk at from row (event ∷ []) k m n → at < opened
-    → walk.OfFiles w.store held (λ files. (more : List Event) × (all_events w.store files ≡ events ++ event ∷ more)) → SaysChanged w first held opened file before now
+    → IfSome held (λ files. (more : List Event) × (all_events w.store files ≡ events ++ event ∷ more)) → SaysChanged w first held opened file before now
 says_changed w first held opened file before now events event at from row k m n o walks next below told =
     let ends : IsWalk at from row (an_end file now ∷ []) k m n = subst (λ ev. IsWalk at from row (ev ∷ []) k m n) o.0 next in
     record {
       below = subst (λ x. x < opened) (sym ends.0) below;
       known = known o.2 ends.0;
       other = o.1;
-      told = told_more w.store held (λ files. (more : List Event) × (all_events w.store files ≡ events ++ event ∷ more)) (λ files. now ≡ length (data_in w.store (file_in files (name_of_file w.store file))))
+      told = told_more held (λ files. (more : List Event) × (all_events w.store files ≡ events ++ event ∷ more)) (λ files. now ≡ length (data_in w.store (file_in files (name_of_file w.store file))))
           (λ files t. ends_told w.store files file now (subst (λ es. IsEndIn es file now) (sym t.1) (end_behind events (event ∷ t.0) file now (subst (λ ev. IsEndIn (ev ∷ t.0) file now) (sym o.0) (inl (refl, refl)))))) told;
     }
   where
@@ -287,7 +287,7 @@ says_stopped w first held opened how Q (Reading g) is stops s =
       below = i.file;
       of = inl i.there;
       column = i.column;
-      told = told_more w.store held
+      told = told_more held
           (λ files. (more : List Event) × (all_events w.store files ≡ s.events ++ s.event ∷ more) × ((g : ReadingFault) → first_in w.store (s.events ++ s.event ∷ []) ≡ Some g → first_fault w.store files ≡ Some g))
           (λ files. first_fault w.store files ≡ Some g) (λ files t. t.2 g (stops s.events s.event s.stopped)) s.told;
     }
@@ -298,7 +298,7 @@ says_stopped w first held opened how Q (Read file) is stops s = absurd (stops s.
 says_stopped w first held opened how Q (TooLarge file) is stops s = absurd (stops s.events s.event s.stopped)
 says_stopped w first held opened how Q (Changed file before now) is stops s =
     says_changed w first held opened file before now s.events s.event s.file s.first s.row s.next.0 s.next.1 s.next.2 (stops s.events s.event s.stopped) s.walks s.next.3 s.below
-    (told_more w.store held
+    (told_more held
     (λ files. (more : List Event) × (all_events w.store files ≡ s.events ++ s.event ∷ more) × ((g : ReadingFault) → first_in w.store (s.events ++ s.event ∷ []) ≡ Some g → first_fault w.store files ≡ Some g))
     (λ files. (more : List Event) × (all_events w.store files ≡ s.events ++ s.event ∷ more)) (λ files t. (t.0, t.1)) s.told)
 says_stopped w first held opened how Q Memory is stops s = tt
@@ -315,13 +315,13 @@ module _ (w : Inputs) (first : List (Option ℕ)) (P : List Event → Type 0) (h
     row = a.row;
     joins = e a.events a.taken;
     walks = a.walks;
-    told = told_more w.store held
+    told = told_more held
         (λ files. (a.events ≡ all_events w.store files) × (blocks_in a.events ≡ all_blocks w.store files) × (file_faults_from w.store files 0 1 w.store.files ≡ []) × (first_fault w.store files ≡ first_in w.store a.events))
         (λ files. (a.events ≡ all_events w.store files) × (blocks_in a.events ≡ all_blocks w.store files) × (first_fault w.store files ≡ first_in w.store a.events)) (λ files t. (t.0, t.1, t.3)) a.told;
   }
   says_whole (Err e) a h =
       says_blocks w first held (length w.store.files) end.Whole (blocks_in a.events) e is (inside a.events a.taken)
-      (told_more w.store held
+      (told_more held
       (λ files. (a.events ≡ all_events w.store files) × (blocks_in a.events ≡ all_blocks w.store files) × (file_faults_from w.store files 0 1 w.store.files ≡ []) × (first_fault w.store files ≡ first_in w.store a.events))
       (λ files. (g : ReadingFault) → first_in w.store a.events ≡ Some g → first_fault w.store files ≡ Some g) (λ files t g f. t.3 ∙ f) a.told)
       (h a.events a.taken)
@@ -338,13 +338,13 @@ module _ (w : Inputs) (first : List (Option ℕ)) (P : List Event → Type 0) (h
         below = l;
         of = inr refl;
         column = own_column g.file a.first (length w.store.names) g a.own;
-        told = told_more w.store held (MeetsTold w.store a.events g) (λ files. first_fault w.store files ≡ Some g) (λ files t. t.2 ∙ ap (λ o. option_or o (Some g)) none) a.told;
+        told = told_more held (MeetsTold w.store a.events g) (λ files. first_fault w.store files ≡ Some g) (λ files t. t.2 ∙ ap (λ o. option_or o (Some g)) none) a.told;
       }
 
       by : EndsBlocks w.store (blocks_in a.events) e ⊎ ((e ≡ Reading g) × (first_in w.store a.events ≡ None)) → Says w first held opened (end.Reading g) (Err e)
       by (inl f) =
           says_blocks w first held opened (end.Reading g) (blocks_in a.events) e is (of_more (g.file + 1) opened (blocks_in a.events) (next g.file opened l) (of_walk 0 1 1 a.events g.file a.first a.row a.walks))
-          (told_more w.store held (MeetsTold w.store a.events g) (λ files. (x : ReadingFault) → first_in w.store a.events ≡ Some x → first_fault w.store files ≡ Some x) (λ files t x f. t.2 ∙ ap (λ o. option_or o (Some g)) f) a.told) f
+          (told_more held (MeetsTold w.store a.events g) (λ files. (x : ReadingFault) → first_in w.store a.events ≡ Some x → first_fault w.store files ≡ Some x) (λ files t x f. t.2 ∙ ap (λ o. option_or o (Some g)) f) a.told) f
       by (inr f) = subst (λ x. Says w first held opened (end.Reading g) (Err x)) (sym f.0) (own f.1)
 
   pub says : (Q : PassFault → List Event → Event → Type 0) (before now : Option (List (List ℕ))) (how : WalkEnd PassFault) (r : Result Walked PassFault) → ((e : PassFault) (es : List Event) (ev : Event) → Q e es ev → HasStopped w.store first e es ev)
@@ -353,7 +353,7 @@ module _ (w : Inputs) (first : List (Option ℕ)) (P : List Event → Type 0) (h
   says Q before now (end.Reading g) r stops v e = says_reading v.opened g r v.tells.0 v.tells.1 e
   says Q before now (end.Stopped x) r stops v e = subst (Says w first held v.opened (end.Stopped x)) (sym e) (says_stopped w first held v.opened (end.Stopped x) (Q x) x is (stops x) v.tells)
   says Q before now (end.Read file) r stops v e = subst (Says w first held v.opened (end.Read file)) (sym e) (refl, v.tells)
-  says Q before now (end.TooLarge file) r stops v e = subst (Says w first held v.opened (end.TooLarge file)) (sym e) (refl, v.tells.0, v.tells.1)
+  says Q before now (end.TooLarge file) r stops v e = subst (Says w first held v.opened (end.TooLarge file)) (sym e) (refl, v.tells)
   says Q before now end.Memory r stops v e = subst (Says w first held v.opened end.Memory) (sym e) tt
 
 -- ---- the clauses
@@ -420,11 +420,11 @@ module _ (w : Inputs) (first : List (Option ℕ)) (held : Option Files) (opened 
           (e.0, s.joins.ended.ended file e.0 e.1)
   kept (Err e) n s = tt
 
-  pub told : (files : Files) (r : Result Walked PassFault) → held ≡ Some files → walk.AreShort files w.store.files → Says w first held opened how r → WalkTells w files first r
-  told files (Ok r) e short s = (t.2 ∙ s.joins.none, subst (λ bs. AreSumsOf w bs r.sums) t.1 s.joins.sums, right)
+  pub told : (files : Files) (r : Result Walked PassFault) → held ≡ Some files → Says w first held opened how r → WalkTells w files first r
+  told files (Ok r) e s = (t.2 ∙ s.joins.none, subst (λ bs. AreSumsOf w bs r.sums) t.1 s.joins.sums, right)
     where
       t : (s.events ≡ all_events w.store files) × (blocks_in s.events ≡ all_blocks w.store files) × (first_fault w.store files ≡ first_in w.store s.events)
-      t = subst (λ o. walk.OfFiles w.store o (λ files. (s.events ≡ all_events w.store files) × (blocks_in s.events ≡ all_blocks w.store files) × (first_fault w.store files ≡ first_in w.store s.events))) e s.told short
+      t = subst (λ o. IfSome o (λ files. (s.events ≡ all_events w.store files) × (blocks_in s.events ≡ all_blocks w.store files) × (first_fault w.store files ≡ first_in w.store s.events))) e s.told
 
       by : (f n : ℕ) → AreCounted files w.store first → (count_at first f ≡ Some n) ⊎ IsEndIn s.events f n → n ≡ length (data_in w.store (file_in files (name_of_file w.store f)))
       by f n known (inl h) = known f n h
@@ -432,11 +432,11 @@ module _ (w : Inputs) (first : List (Option ℕ)) (held : Option Files) (opened 
 
       right : AreCounted files w.store first → AreCounted files w.store r.counts
       right known f n h = by f n known (s.joins.ended.each f n h)
-  told files (Err (Reading g)) e short s = subst (λ o. walk.OfFiles w.store o (λ files. first_fault w.store files ≡ Some g)) e s.told short
-  told files (Err (Read file)) e short s = tt
-  told files (Err (TooLarge file)) e short s = subst (λ o. walk.OfFiles w.store o (λ files. ⊥)) e s.2 short
-  told files (Err (Changed file before now)) e short s = λ known. s.other (known file before s.known ∙ sym (subst (λ o. walk.OfFiles w.store o (λ files. now ≡ length (data_in w.store (file_in files (name_of_file w.store file))))) e s.told short))
-  told files (Err Memory) e short s = tt
+  told files (Err (Reading g)) e s = subst (λ o. IfSome o (λ files. first_fault w.store files ≡ Some g)) e s.told
+  told files (Err (Read file)) e s = tt
+  told files (Err (TooLarge file)) e s = tt
+  told files (Err (Changed file before now)) e s = λ known. s.other (known file before s.known ∙ sym (subst (λ o. IfSome o (λ files. now ≡ length (data_in w.store (file_in files (name_of_file w.store file))))) e s.told))
+  told files (Err Memory) e s = tt
 
 -- ---- what the taker has behind the walk
 

@@ -1,8 +1,8 @@
 -- What the answer of a pass says whatever the shelf tells: what is known behind it, what it opened and what it blames.
-use Rattle.std.specs.Prelude.{◌≡◌, ◌≢◌, ◌<◌, ◌≤◌, ◌^◌, ◌⊎◌, ℕ, Option, Some, Result, Ok, Err, List, length, take, IfSome, ⊤}
+use Rattle.std.specs.Prelude.{◌≡◌, ◌≢◌, ◌<◌, ◌≤◌, ◌^◌, ◌⊎◌, ℕ, Option, Some, Result, Ok, Err, List, length, take, ⊤}
 use Rattle.tall_outside.specs.Count.{Rose}
 use Rattle.tall_outside.specs.OpenedNames.{Adds}
-use Rattle.tall_outside.specs.Shelf.{Files, file_in}
+use Rattle.tall_outside.specs.Shelf.{Files}
 use Rattle.tall_outside.specs.ShelfCounts.{Counts}
 use Rattle.tall_value.specs.declared.faults.Fault as value
 use Rattle.tall_value.specs.declared.faults.ReadingKind.TheVariants as kind
@@ -11,7 +11,7 @@ use Rattle.tall_dense.specs.Columns.{class_of_cell}
 use Rattle.tall_semantics.specs.Deferred.{Vertex}
 use Rattle.tall_semantics.specs.Faults.{Fault}
 use Rattle.tall_semantics.specs.ShapesInOrder.{shape_at}
-use Rattle.tall_store.specs.FileEnds.{name_of_file}
+use Rattle.tall_store.specs.FileEnds.{IsTooLong, name_of_file}
 use Rattle.tall_store.specs.Stores.{SeenStore}
 use Rattle.tall_walk.specs.Placed.{IsColumn}
 use Rattle.tall_fuse.specs.Results.{Found}
@@ -67,9 +67,9 @@ IsExplained (Err (TooLarge file)) before after = 2 ^ 50 < after.came
 IsExplained (Err (Changed file first now)) before after = ⊤
 IsExplained (Err Memory) before after = ⊤
 
--- a file is too large only where it is longer than one opening may be
+-- a file is too large only where it is there, and longer than one opening may be
 abbrev pub IsLonger : SeenStore → Files → Answer → Type 0
-IsLonger store files (Err (TooLarge file)) = IfSome (file_in files (name_of_file store file)) (λ bytes. 2 ^ 50 < length bytes)
+IsLonger store files (Err (TooLarge file)) = IsTooLong files (name_of_file store file)
 IsLonger store files answer = ⊤
 
 -- a file has changed only where it was counted before, with another number

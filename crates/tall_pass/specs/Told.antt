@@ -17,7 +17,6 @@ use Rattle.tall_blocks.specs.Blocks.{Block}
 use Rattle.tall_blocks.specs.PassWork.{IsEndOf, IsWorkOf}
 use Rattle.tall_blocks.specs.Pieces.{carry_in, store_blocks}
 use Rattle.tall_store.specs.Blocks as store
-use Rattle.tall_store.specs.FileEnds.{IsShort}
 use Rattle.tall_store.specs.Stored.{first_fault}
 use Rattle.tall_store.specs.Stores.{SeenStore}
 use Rattle.tall_stored.specs.StoredColumns.{AreStored, Store}
@@ -72,15 +71,9 @@ pub record AreRight (vs : List Vertex) (f : ℕ → Tall) (files : Files) (store
 
 -- ---- what a pass is given
 
--- each file may be read whole by one opening
-abbrev pub AreShort : Files → List (List ℕ) → Type 0
-AreShort files [] = ⊤
-AreShort files (name ∷ names) = IsShort files name × AreShort files names
-
 -- the datastore of the pass stands in the list, the columns are those of the files, the candidate is the least own fault of
 -- what is needed below the pass's rank, what is known is what is defined, and the carries of earlier scans are there
 pub record IsGiven (files : Files) (stores : List Store) (d : Store) (columns : Columns) (vs : List Vertex) (f : ℕ → Tall) (roots : List ℕ) (c : Option Fault) (pass : Pass) (store : SeenStore) (known : Known) (counts : List (Option ℕ)) : Type 0 where
-  pub short : AreShort files store.files
   pub there : slice_get stores pass.store ≡ Some d
   pub same : d.store ≡ store
   pub stored : AreStored files stores vs columns
@@ -105,11 +98,11 @@ pub record IsDone (files : Files) (stores : List Store) (vs : List Vertex) (f : 
   pub results : (i : ℕ) (r : Found) → IsResult vs pass p i → found known i ≡ Some r → Shows (f i) r
   pub carries : (i b : ℕ) → IsCarried vs pass p i → carry known i b ≡ defined_carry vs f files stores i b
 
--- want of memory and a failing shelf say nothing
+-- want of memory, a failing shelf and a file that is too large say nothing
 abbrev pub Tells : Files → List Store → List Vertex → (ℕ → Tall) → (roots : List ℕ) → (c : Option Fault) → Pass → SeenStore → Answer → Known → Type 0
 Tells files stores vs f roots c pass store (Ok p) known = IsDone files stores vs f roots c pass store (option_map fault_seen p) known
 Tells files stores vs f roots c pass store (Err (Reading g)) known = first_fault store files ≡ Some g
 Tells files stores vs f roots c pass store (Err (Read file)) known = ⊤
-Tells files stores vs f roots c pass store (Err (TooLarge file)) known = ⊥
+Tells files stores vs f roots c pass store (Err (TooLarge file)) known = ⊤
 Tells files stores vs f roots c pass store (Err (Changed file first now)) known = ⊥
 Tells files stores vs f roots c pass store (Err Memory) known = ⊤

@@ -76,12 +76,11 @@ abbrev pub answer_of : Result Walked PassFault → Answer
 answer_of (Ok r) = Ok None
 answer_of (Err e) = Err e
 
--- where the shelf tells its files, each of which may be read by one opening: the sums are those of all blocks, or the fault is
--- the datastore's first
+-- where the shelf tells its files: the sums are those of all blocks, or the fault is the datastore's first
 abbrev pub WalkTells : Inputs → Files → List (Option ℕ) → Result Walked PassFault → Type 0
 WalkTells w files first (Ok r) = (first_fault w.store files ≡ None) × AreSumsOf w (all_blocks w.store files) r.sums × (AreCounted files w.store first → AreCounted files w.store r.counts)
 WalkTells w files first (Err (Reading g)) = first_fault w.store files ≡ Some g
 WalkTells w files first (Err (Read file)) = ⊤
-WalkTells w files first (Err (TooLarge file)) = ⊥
+WalkTells w files first (Err (TooLarge file)) = ⊤
 WalkTells w files first (Err (Changed file before now)) = AreCounted files w.store first → ⊥
 WalkTells w files first (Err Memory) = ⊤

@@ -10,7 +10,7 @@ ghost use Rattle.tall_pass.specs.Answered.{Adding, IsChange, IsExplained, IsLong
 ghost use Rattle.tall_pass.specs.Counts.{AllCounted, AreCounted, KeepsCounts};
 ghost use Rattle.tall_pass.specs.Fitting.{AreFit, CanRun};
 ghost use Rattle.tall_pass.specs.PassPlans.{FitsStore};
-ghost use Rattle.tall_pass.specs.Told.{AreShort, IsGiven, Tells};
+ghost use Rattle.tall_pass.specs.Told.{IsGiven, Tells};
 
 use crate::counts::FileCounts;
 use crate::faults::PassFault;
@@ -69,7 +69,7 @@ pub fn run_pass<R: Threads + Sync, S: Shelf + Send, G: Gate + Sync>(
     ensures longer { (files : Files) → S.held shelf.old ≡ Some files → IsLonger store.now files result }
     ensures placed { IsPlaced store.now result }
     ensures told { (files : Files) → S.held shelf.old ≡ Some files → (stores : List Store) (d : Store) (columns : Columns) (f : ℕ → Tall) (roots : List ℕ) (c : Option semantics.Fault) → IsGiven files stores d columns graph.now f roots c pass.now store.now known.old counts.old → Tells files stores graph.now f roots c pass.now store.now result known.new }
-    ensures right { (files : Files) → S.held shelf.old ≡ Some files → AreShort files store.now.files → AreCounted files store.now counts.old → AreCounted files store.now counts.new }
+    ensures right { (files : Files) → S.held shelf.old ≡ Some files → AreCounted files store.now counts.old → AreCounted files store.now counts.new }
 {
     graph.keeps_its_rules();
     let _files = store.file_count();

@@ -8,7 +8,6 @@ ghost use Rattle.tall_semantics.specs.Deferred.{IsAmong};
 ghost use Rattle.tall_store.specs.Stores.{IsStore};
 ghost use Rattle.tall_piece.specs.Joins.{AreWays};
 ghost use Rattle.tall_walk.specs.Events.{block_of};
-ghost use Rattle.tall_walk.specs.Walked.{AreShort};
 ghost use Rattle.tall_pass.specs.Answered.{IsChange, IsExplained, IsLonger, IsPlaced, OpensFiles};
 ghost use Rattle.tall_pass.specs.Counts.{AllCounted, KeepsCounts};
 ghost use Rattle.tall_pass.specs.Taken.{ArePieces, AreWaiting, Inputs, inputs};
@@ -103,7 +102,7 @@ fn walk_given<S: Shelf, C: Fn(&[FileBlock], u64) -> Result<Vec<Piece>, AllocErro
     ensures explained { IsExplained (answer_of result) (shelf_counts S.Shelf shelf.old) (shelf_counts S.Shelf shelf.new) }
     ensures longer { (files : Files) → S.held shelf.old ≡ Some files → IsLonger shared.now.store.now files (answer_of result) }
     ensures placed { IsPlaced shared.now.store.now (answer_of result) }
-    ensures told { (files : Files) → S.held shelf.old ≡ Some files → AreShort files shared.now.store.now.files → WalkTells (shared_inputs shared.now) files counts result }
+    ensures told { (files : Files) → S.held shelf.old ≡ Some files → WalkTells (shared_inputs shared.now) files counts result }
 {
     let mut taker = Taker {
         alloc,
@@ -152,7 +151,7 @@ pub(crate) fn walk_pass<'a, R: Threads + Sync, S: Shelf, G: Gate + Sync>(
     ensures explained { IsExplained (answer_of result) (shelf_counts S.Shelf shelf.old) (shelf_counts S.Shelf shelf.new) }
     ensures longer { (files : Files) → S.held shelf.old ≡ Some files → IsLonger store.now files (answer_of result) }
     ensures placed { IsPlaced store.now (answer_of result) }
-    ensures told { (files : Files) → S.held shelf.old ≡ Some files → AreShort files store.now.files → WalkTells (inputs store.now graph.now known.now all.now wanted.now) files counts.now result }
+    ensures told { (files : Files) → S.held shelf.old ≡ Some files → WalkTells (inputs store.now graph.now known.now all.now wanted.now) files counts.now result }
 {
     let Ok(sums) = Sums::new(alloc, graph, wanted) else {
         return Err(PassFault::Memory);

@@ -1,15 +1,18 @@
 -- From the end of a run to what it promises of its answer.
-use Rattle.std.proofs.Common.{ℕ, ◌≡◌, ◌∙◌, ◌⊎◌, List, [], refl, ap, subst, sym, inl, inr}
-use Rattle.std.specs.Prelude.{Option}
+use Rattle.std.proofs.Common.{ℕ, ◌≡◌, ◌∙◌, ◌⊎◌, ◌<◌, ◌≤◌, ◌^◌, List, [], length, refl, ap, arith, subst, sym, inl, inr}
+use Rattle.std.specs.Prelude.{Option, None, Some, IfSome, IsSomeAnd}
 use Rattle.std.specs.Io.KnownBytes.{Appends}
 use Rattle.tall_answer.specs.CommandAnswers.{CommandAnswer, of_script}
 use Rattle.tall_answer.specs.CommandAnswers as answer
 use Rattle.tall_local.specs.FaultLines.{cannot_write, out_of_memory, outside_line}
 use Rattle.tall_outside.specs.Count.{Rose}
+use Rattle.tall_outside.specs.Shelf.{Files, file_in}
 use Rattle.tall_outside.specs.declared.shelf.Shelf as shelf
+use Rattle.tall_store.specs.FileEnds.{IsTooLong}
 use Rattle.tall_run.specs.Answered.{Closes}
 use Rattle.tall_steps.specs.Ends.{End, IsExplained, all_ran, usage, no_script, refused, stopped, unread, changed, too_large, line_of, status_of, AddsFront}
 use Rattle.tall_run.specs.Dues.{IsDue, IsOwn, status_of_answer}
+use Rattle.tall_run.specs.Shelves.{WithinLimit}
 use Rattle.tall_run.specs.Shown.{Ends, ShowsAll, Written, with_line, line_fails, line_breaks, text_fails, both_fail, text_fails_and_breaks, out_of_memory_ends}
 use Rattle.tall_steps.specs.Statuses.{IsSettled}
 use Rattle.tall_steps.specs.Steps.{HasEnd}
@@ -117,9 +120,17 @@ module _ (a : CommandAnswer) (how : Status) (old new : Written) where
   completed sees calm quiet (text_fails_and_breaks h f l) = inl h
   completed sees calm quiet (out_of_memory_ends h l) = inl h
 
--- ---- an end where nothing failed
+-- ---- an end where nothing failed, over files that are told and short
 
-module _ {S : Type 0} (s : shelf.Ghosts S) (before now : S) (calm : Rose (s.faults before) (s.faults now) → ⊥) (a : CommandAnswer) where
+-- a file that is too long is longer than the limit
+too_long : (files : Files) (name : List ℕ) → WithinLimit files → IsTooLong files name → ⊥
+too_long files name within long = by (file_in files name) (within name) long
+  where
+    by : (bytes : Option (List ℕ)) → IfSome bytes (λ b. length b ≤ 2 ^ 50) → IsSomeAnd bytes (λ b. 2 ^ 50 < length b) → ⊥
+    by None w l = absurd l
+    by (Some b) w l = omega (arith, w, l)
+
+module _ {S : Type 0} (s : shelf.Ghosts S) (before now : S) (files : Files) (tells : s.held before ≡ Some files) (within : WithinLimit files) (calm : Rose (s.faults before) (s.faults now) → ⊥) (a : CommandAnswer) where
   -- is the definitions' own
   pub own_end : (e : End) → IsExplained s e before now → IsDue e a → IsOwn e
   own_end all_ran x due = tt
@@ -129,7 +140,7 @@ module _ {S : Type 0} (s : shelf.Ghosts S) (before now : S) (calm : Rose (s.faul
   own_end (stopped stop) x due = tt
   own_end (unread name) x due = absurd (calm x.0)
   own_end (changed name rows more) x due = absurd due
-  own_end (too_large name) x due = absurd due
+  own_end (too_large name) x due = absurd (too_long files name within (subst (λ o. IfSome o (λ fs. IsTooLong fs name)) tells x.2))
 
 -- and no end of a script is that of the words
 pub not_usage : {S : Type 0} (s : shelf.Ghosts S) (before now : S) (e : End) → IsExplained s e before now → e ≡ usage → ⊥

@@ -12,7 +12,7 @@ use Rattle.std.proofs.lemmas.List.{length-append}
 use Rattle.tall_outside.specs.Shelf.{Files}
 use Rattle.tall_outside.specs.MemShelf.{have_distinct_names}
 use Rattle.tall_words.specs.Demo.{demo_files, next_state, row_text, rows_text, script_text, table_text}
-use Rattle.tall_steps.specs.Ends.{WithinLimit}
+use Rattle.tall_run.specs.Shelves.{WithinLimit}
 
 mag_small : (z : ℤ) (r : ℕ) → z +ℤ pos 128 ≡ pos r → r < 256 → mag z + 1 < 1000
 mag_small (pos n) r e l = omega (arith, ints, e, l)

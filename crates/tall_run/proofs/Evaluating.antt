@@ -25,7 +25,7 @@ use Rattle.tall_script.specs.AllowedOpenings as allowed
 use Rattle.tall_script.specs.Answers.{Answer, Answers, no_script, of_script as of_bytes, answer_of, ended}
 use Rattle.tall_script.specs.Runs.{run}
 use Rattle.tall_script.specs.States.{times_allowed}
-use Rattle.tall_steps.specs.Ends.{AddsFront, AreQuiet, End, Grows, IsExplained, WasOpened, WithinLimit, all_ran, refused, stopped, unread, changed, too_large, usage, refusal_text}
+use Rattle.tall_steps.specs.Ends.{AddsFront, AreQuiet, End, Grows, IsExplained, WasOpened, all_ran, refused, stopped, unread, changed, too_large, usage, refusal_text}
 use Rattle.tall_steps.specs.Ends as ends
 use Rattle.tall_steps.specs.Progress.{EndsRun, IsRunEnd, IsRunEnded, OpensAtMost}
 use Rattle.tall_steps.specs.Steps.{HasEnd}
@@ -219,7 +219,7 @@ module _ {S : Type 0} (s : shelf.Ghosts S) (name : List ℕ) (before : S) (writt
   pub unwritten_end : (now : S) (e : End) → IsScriptEnd s name before now e → IsAnswerEnd s name before now written written e
   unwritten_end now e is = (
     is.0,
-    λ files tells within a answers.
+    λ files tells a answers.
         let d = is.1 files tells a answers in
         (d.0, λ own. subst (λ t. Appends written written t) (sym (d.1 own)) (Appends-nil written)),
   )
@@ -235,19 +235,19 @@ module _ {S : Type 0} (s : shelf.Ghosts S) (name : List ℕ) (before : S) (writt
     due_end files v (ends.no_script n) h a answers = absurd h
     due_end files v (refused what) h a answers = absurd h
     due_end files v (changed n rows many) h a answers = absurd h
-    due_end files v (too_large n) h a answers = absurd h
+    due_end files v (too_large n) h a answers = (tt, λ own. absurd own)
 
     run_end : (e : End) → IsRunEnd s p mid now written after e → IsAnswerEnd s name before now written after e
     run_end e is = (
       explained_later s e before mid now later grows held is.1,
-      λ files tells within a answers. due_end files (verdict files tells) e (is.2 files (held ∙ tells) within) a answers,
+      λ files tells a answers. due_end files (verdict files tells) e (is.2 files (held ∙ tells)) a answers,
     )
 
     pub run_answered : ((bytes : List ℕ) × parse.Parses bytes (parse.read p) × (length bytes ≡ s.came mid)) → (AreQuiet p.statements → now ≡ mid)
         → (end : RunEnd) → IsRunEnded s p mid now written after failed end → IsAnswered s name before now written after failed end
     run_answered script quiet Finished is = (
       (script.0, p, script.1, λ q. script.2 ∙ ap s.came (sym (quiet q))),
-      λ files tells within a answers. let r = is files (held ∙ tells) within in ran_due files p a written after ((verdict files tells).answers a answers) r.0 r.1,
+      λ files tells a answers. let r = is files (held ∙ tells) in ran_due files p a written after ((verdict files tells).answers a answers) r.0 r.1,
     )
     run_answered script quiet (Stopped ending) is = has_end ending run_end is
     run_answered script quiet (Unwritten fault) is = is

@@ -14,10 +14,10 @@ use Rattle.tall_script.specs.Answers.{Answer, Answers}
 use Rattle.tall_script.proofs.OneAnswer.{one_answer}
 use Rattle.tall_words.specs.Commands.{Asked, run_demo, run_script}
 use Rattle.tall_run.specs.Answered.{IsAnswerEnd, IsDemoEnd}
-use Rattle.tall_steps.specs.Ends.{End, usage, WithinLimit, AddsFront}
+use Rattle.tall_steps.specs.Ends.{End, usage, AddsFront}
 use Rattle.tall_run.specs.Dues.{IsDue, IsOwn}
 use Rattle.tall_run.specs.Promises.{Promises}
-use Rattle.tall_run.specs.Shelves.{IfShort, OpensAllowed}
+use Rattle.tall_run.specs.Shelves.{IfShort, IfTold, OpensAllowed, WithinLimit}
 use Rattle.tall_run.specs.Shown.{Ends, ShowsAll, Written, with_line, line_fails, line_breaks, out_of_memory_ends}
 use Rattle.tall_steps.specs.Statuses.{IsSettled}
 use Rattle.tall_steps.specs.declared.statuses.Status.{Status}
@@ -47,23 +47,23 @@ module _ {S : Type 0} (s : shelf.Ghosts S) (name : List ℕ) (workers : ℕ) (be
   abbrev asked : Asked
   asked = run_script name workers
 
-  pub script_promises : ((files : Files) → s.held before ≡ Some files → WithinLimit files → (a : Answer) → Answers files name a → AddsFront a.text old.text new.text)
+  pub script_promises : ((files : Files) → s.held before ≡ Some files → (a : Answer) → Answers files name a → AddsFront a.text old.text new.text)
       → s.held now ≡ s.held before
-      → ((files : Files) → s.held before ≡ Some files → WithinLimit files → OpensAllowed (IsAllowed files name) (s.opened before) (s.opened now))
+      → ((files : Files) → s.held before ≡ Some files → OpensAllowed (IsAllowed files name) (s.opened before) (s.opened now))
       → Promises s (Some (run_script name workers)) before now text_failed line_failed how old new
   script_promises front held opens = record {
     complete = if_some (s.held before) _ (λ files tells within calm a b.
         answer_as (λ x. (how ≡ status.Memory) ⊎ ShowsAll x how old new) files asked
         (λ x answers. completed (of_script x) how old new
-        (λ e is. let t = is.1 files tells within x answers in (own_end s before now calm (of_script x) e is.0 t.0, t)) a b ends));
-    settled = if_some (s.held before) _ (λ files tells within is_settled.
+        (λ e is. let t = is.1 files tells x answers in (own_end s before now files tells within calm (of_script x) e is.0 t.0, t)) a b ends));
+    settled = if_some (s.held before) _ (λ files tells is_settled.
         answer_as (λ x. ShowsAll x how old new) files asked
         (λ x answers. settled (of_script x) how old new
-        (λ e is. (not_usage s before now e is.0, is.1 files tells within x answers)) ends is_settled));
-    front = if_some (s.held before) _ (λ files tells within. answer_as (λ x. AddsFront x.text old.text new.text) files asked (λ x answers. front files tells within x answers));
-    ends = ends_as (λ e is. (is.0, if_some (s.held before) _ (λ files tells within. answer_as (λ x. IsDue e x) files asked (λ x answers. (is.1 files tells within x answers).0)))) ends;
+        (λ e is. (not_usage s before now e is.0, is.1 files tells x answers)) ends is_settled));
+    front = if_some (s.held before) _ (λ files tells. answer_as (λ x. AddsFront x.text old.text new.text) files asked (λ x answers. front files tells x answers));
+    ends = ends_as (λ e is. (is.0, if_some (s.held before) _ (λ files tells. answer_as (λ x. IsDue e x) files asked (λ x answers. (is.1 files tells x answers).0)))) ends;
     held = held;
-    opens = if_some (s.held before) _ (λ files tells within names told. let o = opens files tells within names told in
+    opens = if_some (s.held before) _ (λ files tells names told. let o = opens files tells names told in
         (o.0, o.1, λ file n h. o.2 file n (allowed_script files file name workers n h)));
     unused = λ none. absurd (none tt);
   }
@@ -78,7 +78,7 @@ pub demo_end : {S : Type 0} (s : shelf.Ghosts S) (files : Files) (name : List �
     → (Rose (s.faults before) (s.faults now) → ⊥) → (e : End) → IsAnswerEnd s name before now written after e → IsDemoEnd files name written after e
 demo_end s files name before now written after tells within calm e is =
     let one = one_answer files name in
-    (own_end s before now calm (of_script one.one) e is.0 (is.1 files tells within one.one one.is).0, λ a answers. is.1 files tells within a answers)
+    (own_end s before now files tells within calm (of_script one.one) e is.0 (is.1 files tells one.one one.is).0, λ a answers. is.1 files tells a answers)
 
 own_not_usage : (e : End) → IsOwn e → e ≡ usage → ⊥
 own_not_usage e own u = absurd (subst IsOwn u own)
@@ -171,15 +171,20 @@ module _ (text_failed line_failed : Type 0) (how : Status) (text : Option (List 
   short_of held (Some (run_demo rows workers)) Says f = f
   short_of held None Says f = f
 
+  told_of : (held : Option Files) (asked : Option Asked) (Says : Files → Type 0) → ((files : Files) → Says files) → IfTold held asked Says
+  told_of held (Some (run_script name workers)) Says f = if_some held _ (λ files tells. f files)
+  told_of held (Some (run_demo rows workers)) Says f = f
+  told_of held None Says f = f
+
   pub memory_promises : {S : Type 0} (s : shelf.Ghosts S) (asked : Option Asked) (now : S) → (how ≡ status.Memory) × AddsFront (outside_line out_of_memory) line line'
       → Promises s asked now now text_failed line_failed how (record { text = text; line = line }) (record { text = text; line = line' })
   memory_promises s asked now w = record {
     complete = short_of (s.held now) asked _ (λ files calm a quiet x answers. inl w.0);
-    settled = short_of (s.held now) asked _ (λ files is_settled x answers. absurd (subst IsSettled w.0 is_settled));
-    front = short_of (s.held now) asked _ (λ files x answers. no_front x.text text);
+    settled = told_of (s.held now) asked _ (λ files is_settled x answers. absurd (subst IsSettled w.0 is_settled));
+    front = told_of (s.held now) asked _ (λ files x answers. no_front x.text text);
     ends = out_of_memory_ends w.0 w.1;
     held = refl;
-    opens = short_of (s.held now) asked _ (λ files. nothing_opened _ (s.opened now));
+    opens = told_of (s.held now) asked _ (λ files. nothing_opened _ (s.opened now));
     unused = λ none. refl;
   }
 

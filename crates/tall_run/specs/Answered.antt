@@ -6,7 +6,7 @@ use Rattle.tall_local.specs.FaultLines.{out_of_memory, outside_line}
 use Rattle.tall_outside.specs.Shelf.{Files}
 use Rattle.tall_outside.specs.declared.shelf.Shelf as shelf
 use Rattle.tall_script.specs.Answers.{Answer, Answers}
-use Rattle.tall_steps.specs.Ends.{End, IsExplained, all_ran, WithinLimit, AddsFront}
+use Rattle.tall_steps.specs.Ends.{End, IsExplained, all_ran, AddsFront}
 use Rattle.tall_run.specs.Dues.{IsDue, IsOwn}
 use Rattle.tall_steps.specs.Progress.{IsWriteFault}
 use Rattle.tall_steps.specs.Steps.{HasEnd}
@@ -21,7 +21,7 @@ use Rattle.tall_steps.specs.declared.statuses.Status.TheVariants as status
 abbrev pub IsAnswerEnd : {S : Type 0} → shelf.Ghosts S → List ℕ → (before now : S) → (written after : Option (List ℕ)) → End → Type 0
 IsAnswerEnd s name before now written after e =
     IsExplained s e before now
-    × ((files : Files) → s.held before ≡ Some files → WithinLimit files → (a : Answer) → Answers files name a
+    × ((files : Files) → s.held before ≡ Some files → (a : Answer) → Answers files name a
     → IsDue e (of_script a) × (IsOwn e → Appends written after a.text))
 
 abbrev pub IsAnswered : {S : Type 0} → shelf.Ghosts S → List ℕ → (before now : S) → (written after : Option (List ℕ)) → (failed : Type 0) → RunEnd → Type 0

@@ -12,7 +12,8 @@ status_of_answer answer.done = Done
 status_of_answer answer.fault = Fault
 status_of_answer answer.usage = Usage
 
--- over files that are told and short: an end of the definitions is the answer's; a call that failed tells nothing of it
+-- over files that are told: an end of the definitions is the answer's; a call that failed and a file that is too large tell
+-- nothing of it
 abbrev pub IsDue : End → CommandAnswer → Type 0
 IsDue all_ran a = (a.status ≡ answer.done) × (a.line ≡ [])
 IsDue usage a = (a.status ≡ answer.usage) × (a.line ≡ line_of usage)
@@ -21,7 +22,7 @@ IsDue (refused what) a = (a.status ≡ answer.fault) × (a.line ≡ line_of (ref
 IsDue (stopped stop) a = (a.status ≡ answer.fault) × (a.line ≡ line_of (stopped stop))
 IsDue (unread name) a = ⊤
 IsDue (changed name rows more) a = ⊥
-IsDue (too_large name) a = ⊥
+IsDue (too_large name) a = ⊤
 
 -- an end that a script over files of its own can have
 abbrev pub IsOwn : End → Type 0

@@ -1,10 +1,10 @@
 -- Over which files a run's promises speak, and what it leaves of the shelf.
-use Rattle.std.specs.Prelude.{ℕ, ◌+◌, ◌≤◌, ◌≡◌, List, Option, None, Some, IfSome, ⊤}
+use Rattle.std.specs.Prelude.{ℕ, ◌+◌, ◌≤◌, ◌^◌, ◌≡◌, List, length, Option, None, Some, IfSome, ⊤}
 use Rattle.tall_answer.specs.CommandAnswers.{AnswersAsked, CommandAnswer}
-use Rattle.tall_outside.specs.Shelf.{Files, openings_of}
+use Rattle.tall_outside.specs.Shelf.{Files, file_in, openings_of}
 use Rattle.tall_outside.specs.declared.shelf.Shelf as shelf
 use Rattle.tall_words.specs.Commands.{Asked, run_demo, run_script}
-use Rattle.tall_steps.specs.Ends.{End, IsExplained, WithinLimit, usage}
+use Rattle.tall_steps.specs.Ends.{End, IsExplained, usage}
 use Rattle.tall_run.specs.Dues.{IsDue, IsOwn}
 
 -- the command runs a script of the shelf
@@ -13,7 +13,17 @@ IsOfShelf (Some (run_script name workers)) = ⊤
 IsOfShelf (Some (run_demo rows workers)) = ⊥
 IsOfShelf None = ⊥
 
--- where the shelf tells the files, of which none is too long; a command that takes none of them has its answer over any
+-- no file is longer than 2^50 bytes
+abbrev pub WithinLimit : Files → Type 0
+WithinLimit files = (name : List ℕ) → IfSome (file_in files name) (λ bytes. length bytes ≤ 2 ^ 50)
+
+-- where the shelf tells the files; a command that takes none of them has its answer over any
+abbrev pub IfTold : Option Files → Option Asked → (Files → Type 0) → Type 0
+IfTold held (Some (run_script name workers)) Says = IfSome held Says
+IfTold held (Some (run_demo rows workers)) Says = (files : Files) → Says files
+IfTold held None Says = (files : Files) → Says files
+
+-- and where none of these files is too long
 abbrev pub IfShort : Option Files → Option Asked → (Files → Type 0) → Type 0
 IfShort held (Some (run_script name workers)) Says = IfSome held (λ files. WithinLimit files → Says files)
 IfShort held (Some (run_demo rows workers)) Says = (files : Files) → Says files
@@ -35,7 +45,7 @@ IsExplainedFor s None e before now = e ≡ usage
 abbrev pub IsEnd : {S : Type 0} → shelf.Ghosts S → Option Asked → (before now : S) → End → Type 0
 IsEnd s asked before now e =
     IsExplainedFor s asked e before now
-    × IfShort (s.held before) asked (λ files. (a : CommandAnswer) → AnswersAsked files asked a → IsDue e a)
+    × IfTold (s.held before) asked (λ files. (a : CommandAnswer) → AnswersAsked files asked a → IsDue e a)
 
 -- each name was opened at most as often more as is allowed, where the names are told
 abbrev pub OpensAllowed : (IsAllowed : List ℕ → ℕ → Type 0) → (before now : Option (List (List ℕ))) → Type 0

@@ -8,7 +8,7 @@ ghost use Rattle.tall_script.specs.AllowedOpenings.{IsAllowed};
 ghost use Rattle.tall_script.specs.Answers.{Answer, Answers};
 ghost use Rattle.tall_script.specs.Runs.{run};
 ghost use Rattle.tall_script.specs.States.{times_allowed};
-ghost use Rattle.tall_steps.specs.Ends.{AddsFront, AreQuiet, WithinLimit};
+ghost use Rattle.tall_steps.specs.Ends.{AddsFront, AreQuiet};
 ghost use Rattle.tall_steps.specs.Progress.{IsRunEnded, OpensAtMost};
 ghost use Rattle.tall_run.specs.Answered.{IsAnswerEnd, IsAnswered};
 ghost use Rattle.tall_run.specs.Shelves.{OpensAllowed};
@@ -36,8 +36,8 @@ fn run_all<R: Threads + Sync, S: Shelf + Send, O: Sink, G: Gate + Sync>(
     requires some { 1 ≤ workers }
     requires few { workers ≤ 64 }
     ensures ended { IsRunEnded S.Shelf (program_of script) shelf.old shelf.new (O.written out.old) (O.written out.new) (Rose (O.faults out.old) (O.faults out.new)) result }
-    ensures front { (files : Files) → S.held shelf.old ≡ Some files → WithinLimit files → AddsFront (run files (program_of script)).text (O.written out.old) (O.written out.new) }
-    ensures opens { (files : Files) → S.held shelf.old ≡ Some files → WithinLimit files → OpensAtMost (λ name. times_allowed name (run files (program_of script)).state.opened) (S.opened shelf.old) (S.opened shelf.new) }
+    ensures front { (files : Files) → S.held shelf.old ≡ Some files → AddsFront (run files (program_of script)).text (O.written out.old) (O.written out.new) }
+    ensures opens { (files : Files) → S.held shelf.old ≡ Some files → OpensAtMost (λ name. times_allowed name (run files (program_of script)).state.opened) (S.opened shelf.old) (S.opened shelf.new) }
     ensures quiet { AreQuiet (program_of script).statements → shelf.new ≡ shelf.old }
     ensures held { S.held shelf.new ≡ S.held shelf.old }
 {
@@ -60,9 +60,9 @@ fn evaluate<R: Threads + Sync, S: Shelf + Send, O: Sink, G: Gate + Sync>(
     requires some { 1 ≤ workers }
     requires few { workers ≤ 64 }
     ensures answered { IsAnswered S.Shelf name.now shelf.old shelf.new (O.written out.old) (O.written out.new) (Rose (O.faults out.old) (O.faults out.new)) result }
-    ensures front { (files : Files) → S.held shelf.old ≡ Some files → WithinLimit files → (a : Answer) → Answers files name.now a → AddsFront a.text (O.written out.old) (O.written out.new) }
+    ensures front { (files : Files) → S.held shelf.old ≡ Some files → (a : Answer) → Answers files name.now a → AddsFront a.text (O.written out.old) (O.written out.new) }
     ensures held { S.held shelf.new ≡ S.held shelf.old }
-    ensures opens { (files : Files) → S.held shelf.old ≡ Some files → WithinLimit files → OpensAllowed (IsAllowed files name.now) (S.opened shelf.old) (S.opened shelf.new) }
+    ensures opens { (files : Files) → S.held shelf.old ≡ Some files → OpensAllowed (IsAllowed files name.now) (S.opened shelf.old) (S.opened shelf.new) }
 {
     match read_script(alloc, name, shelf) {
         Ok(script) => run_all(rt, alloc, script, workers, gate, shelf, out),
@@ -85,9 +85,9 @@ pub(crate) fn run_script<R: Threads + Sync, S: Shelf + Send, O: Sink, E: Sink, G
     requires few { workers ≤ 64 }
     ensures ends { Ends (IsAnswerEnd S.Shelf name.now shelf.old shelf.new (O.written out.old) (O.written out.new)) (Rose (O.faults out.old) (O.faults out.new)) (Rose (E.faults err.old) (E.faults err.new))
         result (E.written err.old) (E.written err.new) }
-    ensures front { (files : Files) → S.held shelf.old ≡ Some files → WithinLimit files → (a : Answer) → Answers files name.now a → AddsFront a.text (O.written out.old) (O.written out.new) }
+    ensures front { (files : Files) → S.held shelf.old ≡ Some files → (a : Answer) → Answers files name.now a → AddsFront a.text (O.written out.old) (O.written out.new) }
     ensures held { S.held shelf.new ≡ S.held shelf.old }
-    ensures opens { (files : Files) → S.held shelf.old ≡ Some files → WithinLimit files → OpensAllowed (IsAllowed files name.now) (S.opened shelf.old) (S.opened shelf.new) }
+    ensures opens { (files : Files) → S.held shelf.old ≡ Some files → OpensAllowed (IsAllowed files name.now) (S.opened shelf.old) (S.opened shelf.new) }
 {
     match evaluate(rt, alloc, name, workers, gate, shelf, out) {
         RunEnd::Finished => Status::Done,

@@ -7,7 +7,7 @@ ghost use Rattle.tall_outside.specs.Count.{Rose};
 ghost use Rattle.tall_words.specs.Commands.{command};
 ghost use Rattle.tall_words.specs.Seen.{demo_rows, seen, workers_of};
 ghost use Rattle.tall_run.specs.Promises.{Promises};
-ghost use Rattle.tall_run.specs.Shelves.{IfShort, IsCalm, IsEnd, IsOfShelf, OpensAllowed};
+ghost use Rattle.tall_run.specs.Shelves.{IfShort, IfTold, IsCalm, IsEnd, IsOfShelf, OpensAllowed};
 ghost use Rattle.tall_steps.specs.Ends.{AddsFront};
 ghost use Rattle.tall_run.specs.Shown.{Ends, ShowsAll};
 ghost use Rattle.tall_steps.specs.Statuses.{IsSettled};
@@ -88,12 +88,12 @@ pub fn run<R: Threads + Sync, S: Shelf + Send, O: Sink, E: Sink, G: Gate + Sync>
         (record { text = O.written out.old; line = E.written err.old }) (record { text = O.written out.new; line = E.written err.new })) }
 
     // Done, Fault and Usage come with the whole answer, even where a call failed on the way.
-    ensures settled { IfShort (S.held shelf.old) (command (map string_bytes words.now)) (λ files. IsSettled result
+    ensures settled { IfTold (S.held shelf.old) (command (map string_bytes words.now)) (λ files. IsSettled result
         → (a : CommandAnswer) → AnswersWords files (map string_bytes words.now) a → ShowsAll a result
         (record { text = O.written out.old; line = E.written err.old }) (record { text = O.written out.new; line = E.written err.new })) }
 
     // What is added to the standard output is a front of the answer's text, whatever happens.
-    ensures front { IfShort (S.held shelf.old) (command (map string_bytes words.now)) (λ files. (a : CommandAnswer)
+    ensures front { IfTold (S.held shelf.old) (command (map string_bytes words.now)) (λ files. (a : CommandAnswer)
         → AnswersWords files (map string_bytes words.now) a → AddsFront a.text (O.written out.old) (O.written out.new)) }
 
     // How the run ends, whether or not the shelf tells: each status with its line, and with what explains it.
@@ -102,7 +102,7 @@ pub fn run<R: Threads + Sync, S: Shelf + Send, O: Sink, E: Sink, G: Gate + Sync>
 
     // No file changes, each is opened as often as this script allows, and none without a script of the shelf.
     ensures held { S.held shelf.new ≡ S.held shelf.old }
-    ensures opens { IfShort (S.held shelf.old) (command (map string_bytes words.now)) (λ files. OpensAllowed (λ name n. IsAllowedByWords files (map string_bytes words.now) name n) (S.opened shelf.old) (S.opened shelf.new)) }
+    ensures opens { IfTold (S.held shelf.old) (command (map string_bytes words.now)) (λ files. OpensAllowed (λ name n. IsAllowedByWords files (map string_bytes words.now) name n) (S.opened shelf.old) (S.opened shelf.new)) }
     ensures unused { (IsOfShelf (command (map string_bytes words.now)) → ⊥) → shelf.new ≡ shelf.old }
 {
     run_words(rt, alloc, words, gate, shelf, out, err)

@@ -1,5 +1,5 @@
 -- What a gather in code answers, clause by clause of its call.
-use Rattle.std.specs.Prelude.{◌≡◌, ℕ, Bool, true, false, Option, None, Some, Result, Ok, Err, IfOk, IfSome, List, [], ◌∷◌, ◌++◌, length, map, option_map, Vec}
+use Rattle.std.specs.Prelude.{◌≡◌, ℕ, Bool, true, Option, None, Some, Result, Ok, Err, IfOk, List, [], ◌∷◌, ◌++◌, length, map, option_map, Vec}
 use Rattle.std.proofs.Common.{refl, sym, ap, subst, ◌∙◌, append-nil}
 use Rattle.std.specs.List.{All, flat_map, list_all}
 use Rattle.std.specs.Option.{is_some, option_to_list}
@@ -14,14 +14,12 @@ use Rattle.tall_local.specs.Arguments.{Argument, value_given}
 use Rattle.tall_local.specs.Expressions.{Valued, gives, go_on, stops}
 use Rattle.tall_local.specs.Lists.{ahead, all_of, in_front_of}
 use Rattle.tall_local.specs.Memory.{Memory, texts}
-use Rattle.tall_local.specs.Refusals.{Refusal, Stop, bad_argument, bad_class, stop_at}
+use Rattle.tall_local.specs.Refusals.{Refusal, Stop, bad_argument, stop_at}
 use Rattle.tall_local.specs.StateLaws.{state_after}
 use Rattle.tall_local.specs.Values.{in_memory}
-use Rattle.tall_memory.specs.declared.values.MemoryValue.{MemoryValue}
-use Rattle.tall_memory.specs.Values.{value_seen}
 use Rattle.tall_deferred.specs.declared.values.ScriptValue.{ScriptValue}
 use Rattle.tall_deferred.specs.declared.values.ScriptValue.TheVariants as kept
-use Rattle.tall_deferred.specs.Values.{IsValue, value_at}
+use Rattle.tall_deferred.specs.Values.{IsValue, Shared, shared_seen, value_at}
 use Rattle.tall_script.specs.Gathers.{answered_all, gather_all, gather_call, gather_if, gather_one, gather_value, gathered_value, values_or_fault}
 use Rattle.tall_script.specs.ReadingFaults.{stop_of_fault}
 use Rattle.tall_script.specs.ScriptValues.{TallValue}
@@ -39,7 +37,7 @@ use Rattle.tall_environment.specs.Failures.{refusal_seen, stop_of}
 use Rattle.tall_environment.specs.Values.{arguments_at}
 use Rattle.tall_script_calls.specs.GatheredValues.{may_gather, memories_by, nodes_in, only_given, only_of, openings_by, single_in}
 use Rattle.tall_script_calls.proofs.GatheredLaws.{columns_are, columns_by, gathered, gathered_are, root_shapes, roots_below}
-use Rattle.tall_script_calls.proofs.GatherTells.{gives_all, opens_all, opens_from, refused_is, stops_all}
+use Rattle.tall_script_calls.proofs.GatherTells.{gives_all, opens_all, opens_from, stops_all}
 
 -- ---- answers of any call
 
@@ -115,14 +113,14 @@ module _ (line : ℕ) (files : Files) (old new : SeenEnvironment) (columns : Col
       failed (memories_at {Z = Z} f) (gather_all line (values_at f vs) (state_at f old)) (state_at f new) x
       (λ stop named. stops_all line f old vs roots accepted are shaped stop (state_at f new) state_is (stopped f roots stop told named)) opens
 
-  pub answered_values : {Z : Type 0} (ms : Vec MemoryValue Z) (xs : List SeenColumn) → TellsGather old.stores f roots (Ok xs) → length xs ≡ length roots
-      → ((g : ℕ → SeenColumn) → xs ≡ map g (flat_map nodes_in vs) → map value_seen ms.items ≡ memories_by (single_in old.graph) g vs)
+  pub answered_values : {Z : Type 0} (ms : Vec Shared Z) (xs : List SeenColumn) → TellsGather old.stores f roots (Ok xs) → length xs ≡ length roots
+      → ((g : ℕ → SeenColumn) → xs ≡ map g (flat_map nodes_in vs) → map shared_seen ms.items ≡ memories_by (single_in old.graph) g vs)
       → Answers (memories_at {Z = Z} f) (gather_all line (values_at f vs) (state_at f old)) (Ok ms) (state_at f new)
   answered_values {Z} ms xs told many put =
       let cols : xs ≡ map (columns_by f) (flat_map nodes_in vs) = columns_are f roots xs many told.1 ∙ ap (map (columns_by f)) are in
       let values = put (columns_by f) cols ∙ gathered_are files old.stores old.graph columns f made before.stored before.solved roots below vs are told.0 in
       given (memories_at {Z = Z} f) (gather_all line (values_at f vs) (state_at f old)) (state_at f new) ms
-      (gives_all line f old vs roots accepted are shaped (map value_seen ms.items) (state_at f new) state_is told.0 values)
+      (gives_all line f old vs roots accepted are shaped (map shared_seen ms.items) (state_at f new) state_is told.0 values)
 
 -- ---- one value
 
@@ -182,14 +180,14 @@ module _ {Z : Type 0} (line : ℕ) (f : ℕ → Tall) (v : ScriptValue) (s t : S
     unfinished = λ y same none. subst (λ z. OpensOn t z) (sym (one_state line (value_at f v) s)) (a.unfinished y (ap (λ z. Err z) (one_failure x y same)) none);
   }
 
-  module _ (ms : Vec MemoryValue Z) (a : Answers (memories_at {Z = Z} f) (gather_all line (values_at f (v ∷ [])) s) (Ok ms) t) where
-    single : (m : Memory) × (map value_seen ms.items ≡ m ∷ [])
-    single = single_gives line (value_at f v) s t (map value_seen ms.items) a.agrees
+  module _ (ms : Vec Shared Z) (a : Answers (memories_at {Z = Z} f) (gather_all line (values_at f (v ∷ [])) s) (Ok ms) t) where
+    single : (m : Memory) × (map shared_seen ms.items ≡ m ∷ [])
+    single = single_gives line (value_at f v) s t (map shared_seen ms.items) a.agrees
 
-    one_gives : (m : Memory) → map value_seen ms.items ≡ m ∷ [] → one_wanted line (value_at f v) s ≡ gives (in_memory m) t
+    one_gives : (m : Memory) → map shared_seen ms.items ≡ m ∷ [] → one_wanted line (value_at f v) s ≡ gives (in_memory m) t
     one_gives m e = one_is line (value_at f v) s ∙ (ap as_value a.agrees ∙ ap (λ x. as_value (gives x t)) e)
 
-    pub one_value : (one : MemoryValue) → ((m : Memory) → map value_seen ms.items ≡ m ∷ [] → value_seen one ≡ m) → Answers (value_at f) (one_wanted line (value_at f v) s) (Ok (kept.Memory one)) t
+    pub one_value : (one : Shared) → ((m : Memory) → map shared_seen ms.items ≡ m ∷ [] → shared_seen one ≡ m) → Answers (value_at f) (one_wanted line (value_at f v) s) (Ok (kept.Memory one)) t
     one_value one is =
         let w = single in
         given (value_at f) (one_wanted line (value_at f v) s) t (kept.Memory one) (one_gives w.0 w.1 ∙ ap (λ m. gives (in_memory m) t) (sym (is w.0 w.1)))
@@ -199,7 +197,7 @@ module _ {Z : Type 0} (line : ℕ) (f : ℕ → Tall) (v : ScriptValue) (s t : S
         let w = single in
         memory (value_at f) (one_wanted line (value_at f v) s) t (subst (λ x. OpensOn t x) (sym (ap state_after (one_gives w.0 w.1))) (same_opens t))
 
-pub of_one : {Z : Type 0} (line : ℕ) (f : ℕ → Tall) (vs : List ScriptValue) (v : ScriptValue) (s t : State Tall) (a : Result (Vec MemoryValue Z) Failure) → vs ≡ v ∷ [] → Answers (memories_at {Z = Z} f) (gather_all line (values_at f vs) s) a t
+pub of_one : {Z : Type 0} (line : ℕ) (f : ℕ → Tall) (vs : List ScriptValue) (v : ScriptValue) (s t : State Tall) (a : Result (Vec Shared Z) Failure) → vs ≡ v ∷ [] → Answers (memories_at {Z = Z} f) (gather_all line (values_at f vs) s) a t
     → Answers (memories_at {Z = Z} f) (gather_all line (values_at f (v ∷ [])) s) a t
 of_one {Z} line f vs v s t a e h = subst (λ xs. Answers (memories_at {Z = Z} f) (gather_all line (values_at f xs) s) a t) e h
 

@@ -14,7 +14,6 @@ use Rattle.tall_gather.specs.Progress.{FitStores}
 use Rattle.tall_gather.specs.Told.{IsTold}
 use Rattle.tall_environment.specs.Environments.{IsEnvironment, SeenEnvironment, opening_of}
 use Rattle.tall_environment.specs.Expressions.{IsSense}
-use Rattle.tall_environment.specs.Failures.{AreShort}
 use Rattle.tall_environment.specs.Moves.{Moves}
 use Rattle.tall_script_calls.specs.GatheredValues.{openings_by}
 use Rattle.tall_script_calls.proofs.GatherOpenings.{as_pairs, moved, pair_of, within_allowed}
@@ -27,8 +26,8 @@ module _ (e : SeenEnvironment) (stores : List SeenStore) (graph : List Vertex) (
   pub roots_fit : (roots : List ℕ) → AllBelow (length e.graph) roots → AllBelow (length graph) roots
   roots_fit roots h = subst (λ (vs : List Vertex). AllBelow (length vs) roots) (sym eg) h
 
-  pub told_by : (files : Files) (columns : Columns) (f : ℕ → Tall) → AreShort files → IsSense files e columns f → IsTold files e.stores columns graph f stores
-  told_by files columns f short sense = subst (λ s. IsTold files e.stores columns graph f s) (sym es) (subst (λ vs. IsTold files e.stores columns vs f (map store_in e.stores)) (sym eg) (is_told files e columns f short sense))
+  pub told_by : (files : Files) (columns : Columns) (f : ℕ → Tall) → IsSense files e columns f → IsTold files e.stores columns graph f stores
+  told_by files columns f sense = subst (λ s. IsTold files e.stores columns graph f s) (sym es) (subst (λ vs. IsTold files e.stores columns vs f (map store_in e.stores)) (sym eg) (is_told files e columns f sense))
 
   pub columns_moved : {S : Type 0} (s : shelf.Ghosts S) (roots : List ℕ) (new : SeenEnvironment) (before now : S) → new ≡ record e { opened = e.opened ++ openings_by e roots }
       → Went s (gather_openings 0 stores (map (shape_at graph) roots)) before now → Moves s e new before now

@@ -1,18 +1,18 @@
 -- What a failure of a gather names and blames follows from its fault.
-use Rattle.std.specs.Prelude.{◌≡◌, ◌<◌, ◌^◌, ℕ, List, Option, None, Some, Err, length, option_map, slice_get, IfSome}
+use Rattle.std.specs.Prelude.{◌≡◌, ◌<◌, ℕ, List, Option, None, Some, Err, length, option_map, slice_get}
 use Rattle.std.proofs.Common.{refl, sym, ap, subst, ◌∙◌}
 use Rattle.tall_outside.specs.declared.shelf.Shelf as shelf
 use Rattle.tall_outside.specs.Count.{Rose}
-use Rattle.tall_outside.specs.Shelf.{Files, file_in, openings_of}
+use Rattle.tall_outside.specs.Shelf.{Files, openings_of}
 use Rattle.tall_value.specs.declared.faults.Fault as value
 use Rattle.tall_semantics.specs.Deferred.{least_in}
-use Rattle.tall_semantics.specs.Faults.{Fault, fault_seen}
+use Rattle.tall_semantics.specs.Faults.{Fault}
 use Rattle.tall_semantics.specs.Talls.{Tall}
-use Rattle.tall_store.specs.FileEnds.{name_of_file}
+use Rattle.tall_store.specs.FileEnds.{IsTooLong, name_of_file}
 use Rattle.tall_store.specs.Stores.{SeenStore}
 use Rattle.tall_store.specs.declared.faults.ReadingFault.{ReadingFault}
 use Rattle.tall_stored.specs.StoredColumns.{Store, fault_of_reading}
-use Rattle.tall_local.specs.Refusals.{Stop, failed, stop_at}
+use Rattle.tall_local.specs.Refusals.{Stop, stop_at}
 use Rattle.tall_script.specs.ReadingFaults.{reading_in, stop_of_fault, stop_of_reading}
 use Rattle.tall_script.specs.States.{Openings}
 use Rattle.tall_gather.specs.Gathered.{TellsGather}
@@ -22,28 +22,15 @@ use Rattle.tall_gather.specs.declared.faults.GatherFault.{GatherFault}
 use Rattle.tall_gather.specs.declared.faults.GatherFault.TheVariants as fault
 use Rattle.tall_environment.specs.declared.failures.Failure.{Failure}
 use Rattle.tall_environment.specs.declared.failures.Failure.TheVariants as failure
-use Rattle.tall_environment.specs.Failures.{AreShort, Blames, IsOpened, stop_of}
+use Rattle.tall_environment.specs.Failures.{Blames, IsOpened, stop_of}
 use Rattle.tall_environment.specs.Environments.{SeenEnvironment}
 use Rattle.tall_environment.specs.MoveLaws.{inside_blames}
-use Rattle.tall_script_calls.specs.GatherFailures.{HasFile, IsChanged, IsFailureOf, IsNameOf, IsNamed, IsRead, IsTooLarge, MayBeTold}
+use Rattle.tall_script_calls.specs.GatherFailures.{IsChanged, IsFailureOf, IsNameOf, IsRead, IsTooLarge, MayBeTold}
 use Rattle.tall_script_calls.proofs.ReadingLaws.{reading_blames}
 
--- ---- what is named is there
+-- ---- causes
 
 module _ {S : Type 0} (s : shelf.Ghosts S) (list : List SeenStore) (before now : S) where
-  has_file : (store file : ℕ) → going.IsOpened s list store file before now → HasFile list store file
-  has_file store file o = (o.0, o.1, o.2)
-
-  pub are_named : (e : GatherFault) → IsCaused s list e before now → IsNamed list e
-  are_named (fault.Data x) h = tt
-  are_named (fault.Reading store g) h = (h.found, h.there, h.file, h.column)
-  are_named (fault.Read store file) h = has_file store file h.1
-  are_named (fault.TooLarge store file) h = has_file store file h.1
-  are_named (fault.Changed store file m n) h = has_file store file h.1
-  are_named fault.Memory h = tt
-
-  -- ---- causes
-
   opened : (store file : ℕ) (name : List ℕ) → IsNameOf list store file name → going.IsOpened s list store file before now → IsOpened s name before now
   opened store file name is o names all told end = subst (λ x. openings_of x names < openings_of x all) (sym (is o.0 o.1)) (o.3 names all told end)
 
@@ -55,21 +42,19 @@ module _ {S : Type 0} (s : shelf.Ghosts S) (list : List SeenStore) (before now :
   read store file failure.Memory k h = tt
 
   too_large : (store file : ℕ) (x : Failure) → IsTooLarge list store file x → IsCaused s list (fault.TooLarge store file) before now
-      → ((files : Files) → s.held before ≡ Some files → AreShort files → ⊥) → Blames s x before now
-  too_large store file (failure.Refused line e) k h never = absurd k
-  too_large store file (failure.Read name) k h never = absurd k
-  too_large store file (failure.TooLarge name) k h never = (
+      → Blames s x before now
+  too_large store file (failure.Refused line e) k h = absurd k
+  too_large store file (failure.Read name) k h = absurd k
+  too_large store file (failure.TooLarge name) k h = (
     h.0,
     opened store file name k h.1,
-    λ files told. subst (λ x. IfSome (file_in files x) (λ bytes. 2 ^ 50 < length bytes)) (sym (k h.1.0 h.1.1))
-        (subst (λ d. going.IsLongFile files d file) h.1.1 (h.2 files told)),
-    never,
+    λ files told. subst (IsTooLong files) (sym (k h.1.0 h.1.1)) (subst (λ d. going.IsLongFile files d file) h.1.1 (h.2 files told)),
   )
-  too_large store file (failure.Changed name first last) k h never = absurd k
-  too_large store file failure.Memory k h never = tt
+  too_large store file (failure.Changed name first last) k h = absurd k
+  too_large store file failure.Memory k h = tt
 
   changed : (store file m n : ℕ) (x : Failure) → IsChanged list store file m n x → IsCaused s list (fault.Changed store file m n) before now
-      → ((files : Files) → s.held before ≡ Some files → AreShort files → ⊥) → Blames s x before now
+      → ((files : Files) → s.held before ≡ Some files → ⊥) → Blames s x before now
   changed store file m n (failure.Refused line e) k h never = absurd k
   changed store file m n (failure.Read name) k h never = absurd k
   changed store file m n (failure.TooLarge name) k h never = absurd k
@@ -77,11 +62,11 @@ module _ {S : Type 0} (s : shelf.Ghosts S) (list : List SeenStore) (before now :
   changed store file m n failure.Memory k h never = tt
 
   pub blamed : (e : GatherFault) (x : Failure) → IsFailureOf list e x → IsCaused s list e before now
-      → ((files : Files) → s.held before ≡ Some files → AreShort files → MayBeTold e) → Blames s x before now
+      → ((files : Files) → s.held before ≡ Some files → MayBeTold e) → Blames s x before now
   blamed (fault.Data f) x k h may = inside_blames s before now x k
   blamed (fault.Reading store g) x k h may = reading_blames s before now g.kind h.missed x k
   blamed (fault.Read store file) x k h may = read store file x k h
-  blamed (fault.TooLarge store file) x k h may = too_large store file x k h may
+  blamed (fault.TooLarge store file) x k h may = too_large store file x k h
   blamed (fault.Changed store file m n) x k h may = changed store file m n x k h may
   blamed fault.Memory x k h may = inside_blames s before now x k
 
@@ -97,10 +82,6 @@ reading_stop stores store d g least stop there is named =
     ap (option_map (stop_of_fault stores)) is
     ∙ (ap (λ x. Some (stop_at d.at.line (reading_in x g.kind g.file (fault_of_reading store d.at g)))) there ∙ ap Some named)
 
--- the least fault is that of an operation
-pub data_stop : (stores : List Store) (x : value.Fault) (least : Option Fault) (stop : Stop) → least ≡ Some (fault_seen x) → Some (stop_at x.line (failed x.row x.kind)) ≡ Some stop → option_map (stop_of_fault stores) least ≡ Some stop
-data_stop stores x least stop is named = ap (option_map (stop_of_fault stores)) is ∙ named
-
 -- ---- as of the datastores before the call
 
 abbrev pub Stops : List Store → GatherFault → Failure → Type 0
@@ -111,6 +92,3 @@ same_stores old new opened h = ap (λ (e : SeenEnvironment). e.stores) h
 
 pub same_graph : (old new : SeenEnvironment) (opened : List Openings) → new ≡ record old { opened = opened } → new.graph ≡ old.graph
 same_graph old new opened h = ap (λ (e : SeenEnvironment). e.graph) h
-
-pub only_opened : (old new : SeenEnvironment) (opened : List Openings) → new ≡ record old { opened = opened } → new ≡ record old { opened = new.opened }
-only_opened old new opened h = h ∙ ap (λ os. record old { opened = os }) (sym (ap (λ (e : SeenEnvironment). e.opened) h))

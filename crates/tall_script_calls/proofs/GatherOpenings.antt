@@ -94,7 +94,7 @@ some_same a b e = cc
 pub moved : {S : Type 0} (s : shelf.Ghosts S) (old new : SeenEnvironment) (more : List Openings) (before now : S) (bound : List ℕ → ℕ) → new ≡ record old { opened = old.opened ++ more } → Went s bound before now
     → (HaveDistinctFiles old.stores → (name : List ℕ) → bound name ≤ times_allowed name more) → Moves s old new before now
 moved s old new more before now bound e went within =
-    moves_opened s old new more before now e went.held went.later (λ names told. (let o = went.opens names told in (o.0, o.1, λ name. (o.2 name).0))) (λ files told short h names all start end name.
+    moves_opened s old new more before now e went.held went.later (λ names told. (let o = went.opens names told in (o.0, o.1, λ name. (o.2 name).0))) (λ files told h names all start end name.
     let o = went.opens names start in
     let same : o.0 ≡ all = some_same o.0 all (sym o.1 ∙ end) in
     let b = within h name in

@@ -12,7 +12,6 @@ use Rattle.tall_semantics.specs.Talls.{Columns, Tall}
 use Rattle.tall_store.specs.Stores.{SeenStore}
 use Rattle.tall_stored.specs.StoredColumns.{Store, variable_class}
 use Rattle.tall_pass.specs.PassPlans.{FitsStore}
-use Rattle.tall_pass.specs.Told as told
 use Rattle.tall_sources.specs.Kept.{AreKept}
 use Rattle.tall_sources.specs.Sources.{store_in}
 use Rattle.tall_gather.specs.Gathered.{TellsGather}
@@ -22,7 +21,6 @@ use Rattle.tall_gather.specs.declared.faults.GatherFault.{GatherFault}
 use Rattle.tall_gather.specs.declared.faults.GatherFault.TheVariants as fault
 use Rattle.tall_environment.specs.Environments.{SeenEnvironment}
 use Rattle.tall_environment.specs.Expressions.{IsSense}
-use Rattle.tall_environment.specs.Failures.{AreShort}
 use Rattle.tall_script_calls.specs.GatherFailures.{MayBeTold}
 
 one_store : (d e : Store) → Some d ≡ Some e → d ≡ e
@@ -54,17 +52,12 @@ fit_stores stores vs kept i v s variable class at made =
         (subst (λ (x : Store). a < length x.store.selected) same w.3, subst (λ (x : Store). c ≡ variable_class x.store a) same w.4)
 
 -- what the definitions tell over these files
-pub is_told : (files : Files) (e : SeenEnvironment) (columns : Columns) (f : ℕ → Tall) → AreShort files → IsSense files e columns f → IsTold files e.stores columns e.graph f (map store_in e.stores)
-is_told files e columns f short sense = record {
+pub is_told : (files : Files) (e : SeenEnvironment) (columns : Columns) (f : ℕ → Tall) → IsSense files e columns f → IsTold files e.stores columns e.graph f (map store_in e.stores)
+is_told files e columns f sense = record {
   same = λ s x at. kept_store e.stores s x at;
-  short = λ s x at. each x.files;
   stored = sense.stored;
   meaning = sense.solved;
 }
-  where
-    each : (names : List (List ℕ)) → told.AreShort files names
-    each [] = tt
-    each (name ∷ names) = (short name, each names)
 
 -- a fault that is told is one of the files
 pub may_be_told : {V : Type 0} (items : V → List SeenColumn) (list : List Store) (f : ℕ → Tall) (roots : List ℕ) (r : Result V GatherFault) → TellsGather list f roots (result_map_both items (λ (x : GatherFault). x) r) → IfErr r MayBeTold
@@ -72,13 +65,13 @@ may_be_told items list f roots (Ok v) h = tt
 may_be_told items list f roots (Err (fault.Data x)) h = tt
 may_be_told items list f roots (Err (fault.Reading store g)) h = tt
 may_be_told items list f roots (Err (fault.Read store file)) h = tt
-may_be_told items list f roots (Err (fault.TooLarge store file)) h = h
+may_be_told items list f roots (Err (fault.TooLarge store file)) h = tt
 may_be_told items list f roots (Err (fault.Changed store file first now)) h = h
 may_be_told items list f roots (Err fault.Memory) h = tt
 
-pub each_may : {V : Type 0} (r : Result V GatherFault) (P Q : Files → Type 0) → ((files : Files) → P files → Q files → IfErr r MayBeTold) → IfErr r (λ e. (files : Files) → P files → Q files → MayBeTold e)
-each_may (Ok v) P Q h = tt
-each_may (Err e) P Q h = h
+pub each_may : {V : Type 0} (r : Result V GatherFault) (P : Files → Type 0) → ((files : Files) → P files → IfErr r MayBeTold) → IfErr r (λ e. (files : Files) → P files → MayBeTold e)
+each_may (Ok v) P h = tt
+each_may (Err e) P h = h
 
 read_is : (xs : List SeenStore) (k : ℕ) (y d : SeenStore) → slice_get xs k ≡ Some y → get_or xs k d ≡ y
 read_is [] k y d e = absurd (cc)

@@ -1,5 +1,5 @@
 -- The values of a gather are those of the definitions.
-use Rattle.std.specs.Prelude.{◌≡◌, ◌<◌, ◌&&◌, ℕ, zero, suc, Bool, true, false, Option, None, Some, Result, Ok, Err, List, [], ◌∷◌, ◌++◌, length, map, slice_get}
+use Rattle.std.specs.Prelude.{◌≡◌, ◌<◌, ◌&&◌, ℕ, zero, suc, Bool, true, false, None, Some, Result, Ok, Err, List, [], ◌∷◌, ◌++◌, length, map, slice_get}
 use Rattle.std.proofs.Common.{refl, sym, ap, subst, ◌∙◌, arith, inl, inr}
 use Rattle.std.specs.List.{All, flat_map, list_all}
 use Rattle.std.proofs.lemmas.List.{map-append}
@@ -26,6 +26,7 @@ use Rattle.tall_local.specs.Memory as local
 use Rattle.tall_local.specs.Memory.{Memory}
 use Rattle.tall_local.specs.Names.{each_named}
 use Rattle.tall_local.specs.Refusals.{Refusal, bad_class}
+use Rattle.tall_local.specs.Values.{in_memory}
 use Rattle.tall_memory.specs.declared.values.MemoryValue.{MemoryValue}
 use Rattle.tall_memory.specs.declared.values.MemoryValue.TheVariants as memory
 use Rattle.tall_column.specs.declared.table.Value.TheVariants as inside
@@ -33,11 +34,11 @@ use Rattle.tall_memory.specs.Values.{value_seen}
 use Rattle.tall_deferred.specs.declared.values.ScriptValue.{ScriptValue}
 use Rattle.tall_deferred.specs.declared.values.ScriptValue.TheVariants as kept
 use Rattle.tall_deferred.specs.declared.values.Variable.{Variable}
-use Rattle.tall_deferred.specs.Values.{IsValue, IsVariable, value_at, variables_at}
+use Rattle.tall_deferred.specs.Values.{IsValue, IsVariable, shared_seen, value_at, variables_at}
 use Rattle.tall_script.specs.Gathers.{column_in, column_of_tall, gathered_value, memory_of_outcome, talls_in}
 use Rattle.tall_gather.specs.Gathered.{column_of}
 use Rattle.tall_environment.specs.Expressions.{values_at}
-use Rattle.tall_script_calls.specs.GatheredValues.{may_gather, memories_by, memory_by, node_in, nodes_in, root_memory, single_in, variable_by}
+use Rattle.tall_script_calls.specs.GatheredValues.{is_no_list, may_gather, memories_by, memory_by, node_in, nodes_in, root_memory, single_in, variable_by}
 
 abbrev pub ok_memory : Memory → Result Memory Refusal
 ok_memory m = Ok m
@@ -54,29 +55,35 @@ bad_memories = Err bad_class
 -- ---- classes
 
 -- what is refused
+refused_memory : (v : MemoryValue) → is_no_list v ≡ false → gathered_value (in_memory (value_seen v)) ≡ bad_memory
+refused_memory (memory.Value v) h = absurd (cc)
+refused_memory (memory.Texts ts) h = refl
+
 refused_value : (f : ℕ → Tall) (v : ScriptValue) → may_gather v ≡ false → gathered_value (value_at f v) ≡ bad_memory
 refused_value f (kept.Datastore place) h = refl
 refused_value f (kept.Table xs) h = absurd (cc)
 refused_value f (kept.Tall n) h = absurd (cc)
-refused_value f (kept.Memory (memory.Value v)) h = absurd (cc)
-refused_value f (kept.Memory (memory.Texts ts)) h = refl
+refused_value f (kept.Memory v) h = refused_memory v.value h
 
 -- what is accepted
 pub gathered : (ℕ → Tall) → ScriptValue → Memory
 gathered f (kept.Datastore place) = local.texts []
 gathered f (kept.Table xs) = local.table (each_named column_of_tall (variables_at f xs.items))
 gathered f (kept.Tall n) = memory_of_outcome (f n).shape.class (f n).outcome
-gathered f (kept.Memory v) = value_seen v
+gathered f (kept.Memory v) = shared_seen v
+
+accepted_memory : (v : MemoryValue) → is_no_list v ≡ true → gathered_value (in_memory (value_seen v)) ≡ ok_memory (value_seen v)
+accepted_memory (memory.Value (inside.Scalar c)) h = refl
+accepted_memory (memory.Value (inside.Column c)) h = refl
+accepted_memory (memory.Value (inside.Table t)) h = refl
+accepted_memory (memory.Texts ts) h = absurd (cc)
 
 accepted_value : (f : ℕ → Tall) (v : ScriptValue) → may_gather v ≡ true → gathered_value (value_at f v) ≡ ok_memory (gathered f v)
 unfolding gathered
 accepted_value f (kept.Datastore place) h = absurd (cc)
 accepted_value f (kept.Table xs) h = refl
 accepted_value f (kept.Tall n) h = refl
-accepted_value f (kept.Memory (memory.Value (inside.Scalar c))) h = refl
-accepted_value f (kept.Memory (memory.Value (inside.Column c))) h = refl
-accepted_value f (kept.Memory (memory.Value (inside.Table t))) h = refl
-accepted_value f (kept.Memory (memory.Texts ts)) h = absurd (cc)
+accepted_value f (kept.Memory v) h = accepted_memory v.value h
 
 both_true : (a b : Bool) → (a && b) ≡ true → (a ≡ true) × (b ≡ true)
 both_true true b h = (refl, h)

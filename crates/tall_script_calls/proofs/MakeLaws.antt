@@ -112,7 +112,7 @@ same_size n = omega arith
 module _ {S : Type 0} (s : shelf.Ghosts S) (wanted : Option SeenOptions) (old : SeenEnvironment) (before now : S) where
   moves_allowing : (r : Result SeenStore OpenFault) → IsOpening s wanted before now r → Moves s old (allowing wanted old) before now
   moves_allowing r o =
-      moves_opened s old (allowing wanted old) (openings_due wanted) before now refl o.held o.later (opening_grows s wanted before now r o) (λ files told short are. opening_within s wanted before now r o)
+      moves_opened s old (allowing wanted old) (openings_due wanted) before now refl o.held o.later (opening_grows s wanted before now r o) (λ files told are. opening_within s wanted before now r o)
 
   moves_making : (store : SeenStore) (at : semantics.At) → IsOpening s wanted before now (Ok store)
       → ((files : Files) (columns : Columns) → AreStored files (old.stores ++ record { at = at; store = store } ∷ []) old.graph columns → AreStored files old.stores old.graph columns)
@@ -120,7 +120,7 @@ module _ {S : Type 0} (s : shelf.Ghosts S) (wanted : Option SeenOptions) (old : 
   moves_making store at o stored =
       moves_both s old (allowing wanted old) (making wanted (record { at = at; store = store }) old) before now now (moves_allowing (Ok store) o)
       (moves_made s (allowing wanted old) (making wanted (record { at = at; store = store }) old) (record { at = at; store = store }) now refl stored
-      (λ files told short are. opening_made s wanted before now store o files (sym o.held ∙ told) short))
+      (λ files told are. opening_made s wanted before now store o files (sym o.held ∙ told)))
 
   -- ---- the call
 
@@ -136,8 +136,8 @@ module _ {S : Type 0} (s : shelf.Ghosts S) (wanted : Option SeenOptions) (old : 
     within = tt;
     last = more_is_last at.number (allowing wanted old) (making wanted (record { at = at; store = store }) old) (record { at = at; store = store }) refl (same_size at.number)
         (next_is_last at.number (allowing wanted old) (next_allowing wanted old (allowing wanted old) at.number refl next));
-    tells = λ files told short columns f sense.
-        answers_made f at (store_due files wanted) store place (with_openings (openings_due wanted) (state_at f old)) (opening_due s wanted before now (Ok store) o files told short) here;
+    tells = λ files told columns f sense.
+        answers_made f at (store_due files wanted) store place (with_openings (openings_due wanted) (state_at f old)) (opening_due s wanted before now (Ok store) o files told) here;
     blames = tt;
   }
 
@@ -147,7 +147,7 @@ module _ {S : Type 0} (s : shelf.Ghosts S) (wanted : Option SeenOptions) (old : 
     moves = moves_allowing r o;
     within = tt;
     last = tt;
-    tells = λ files told short columns f sense. record {
+    tells = λ files told columns f sense. record {
       agrees = λ stop named. no_stop stop named;
       unfinished = λ x other free.
           opens_equal (state_at f (allowing wanted old)) (state_after (called at files f (state_at f old))) (makes_opened at (store_due files wanted) (with_openings (openings_due wanted) (state_at f old)));
@@ -161,8 +161,8 @@ module _ {S : Type 0} (s : shelf.Ghosts S) (wanted : Option SeenOptions) (old : 
     moves = moves_allowing (Err e) o;
     within = tt;
     last = tt;
-    tells = λ files told short columns f sense.
-        answers_failing f at (store_due files wanted) (with_openings (openings_due wanted) (state_at f old)) e (opening_due s wanted before now (Err e) o files told short);
+    tells = λ files told columns f sense.
+        answers_failing f at (store_due files wanted) (with_openings (openings_due wanted) (state_at f old)) e (opening_due s wanted before now (Err e) o files told);
     blames = opening_blames s wanted before now at.line e o;
   }
 

@@ -1,6 +1,6 @@
 -- What an opening of a datastore allows and opens, and what its fault blames.
 use Rattle.std.proofs.Common.{◌≡◌, ◌∙◌, ◌++◌, ◌∷◌, [], ◌+◌, ◌<◌, ◌≤◌, ◌^◌, ℕ, List, length, Option, Some, None, refl, sym, ap, subst, inl, inr, arith}
-use Rattle.std.specs.Prelude.{◌≢◌, ◌&&◌, Bool, true, false, if◌then◌else◌, Result, Ok, Err, IfSome}
+use Rattle.std.specs.Prelude.{◌≢◌, ◌&&◌, Bool, true, false, if◌then◌else◌, Result, Ok, Err, IfSome, IsSomeAnd}
 use Rattle.std.specs.Bool.{Decides}
 use Rattle.std.specs.Str.{bytes_eq}
 use Rattle.std.proofs.lemmas.List.Sums.{sum_by-append}
@@ -12,6 +12,7 @@ use Rattle.tall_outside.specs.Shelf.{Files, file_in, openings_of}
 use Rattle.tall_outside.specs.OpenedNames.{Adds, OpensOnce}
 use Rattle.tall_cut.specs.Rows.{Fields, file_records}
 use Rattle.tall_store.specs.Choices.{chosen_formats, chosen_places}
+use Rattle.tall_store.specs.FileEnds.{IsTooLong}
 use Rattle.tall_store.specs.Names.{variable_names}
 use Rattle.tall_store.specs.Opening.{first_fields, first_name, opened_file, opened_first, opened_records, opened_store, opening}
 use Rattle.tall_store.specs.Options.{SeenOptions, is_absent_or, is_accepted, is_choice, is_delimiter, is_nonempty, is_size}
@@ -24,7 +25,7 @@ use Rattle.tall_script.specs.States.{times_allowed}
 use Rattle.tall_sources.specs.Opened.{FirstIsWithin, OpensTo, first_given, openings_due, refused_opening, store_due, unnamed}
 use Rattle.tall_sources.specs.declared.opening.OpenFault.{OpenFault}
 use Rattle.tall_sources.specs.declared.opening.OpenFault.TheVariants as fault
-use Rattle.tall_environment.specs.Failures.{AreShort, Blames, IsOpened}
+use Rattle.tall_environment.specs.Failures.{Blames, IsOpened}
 use Rattle.tall_environment.specs.Moves.{OpensMore, OpensWithin}
 use Rattle.tall_script_calls.specs.Making.{failing}
 use Rattle.tall_script_calls.specs.Watching.{IsOpening, OpensFor}
@@ -163,11 +164,6 @@ due_distinct : (files : Files) (wanted : Option SeenOptions) (store : SeenStore)
 due_distinct files None store e = absurd cc
 due_distinct files (Some o) store e = opening_distinct files o store (inner o.files (opening files o) store e)
 
--- where no file is too long, the first is not
-first_within : (files : Files) (wanted : Option SeenOptions) → AreShort files → FirstIsWithin files wanted
-first_within files None short = tt
-first_within files (Some o) short = short (first_name o.files)
-
 told_at : (P : Files → Type 0) (held : Option Files) (files : Files) → held ≡ Some files → IfSome held P → P files
 told_at P held files e h = subst (λ x. IfSome x P) e h
 
@@ -177,8 +173,8 @@ module _ {S : Type 0} (s : shelf.Ghosts S) (wanted : Option SeenOptions) (before
   pub opening_grows : OpensMore (s.opened before) (s.opened now)
   opening_grows = grows_once (first_given wanted) (s.opened before) (s.opened now) (once_for (first_given wanted) (s.opened before) (s.opened now) r o.opens)
 
-  pub opening_due : (files : Files) → s.held before ≡ Some files → AreShort files → OpensTo (store_due files wanted) r
-  opening_due files held short = told_at (λ files. FirstIsWithin files wanted → OpensTo (store_due files wanted) r) (s.held before) files held o.told (first_within files wanted short)
+  pub opening_due : (files : Files) → s.held before ≡ Some files → OpensTo (store_due files wanted) r
+  opening_due files held = told_at (λ files. OpensTo (store_due files wanted) r) (s.held before) files held o.told
 
 pub opening_within : {S : Type 0} (s : shelf.Ghosts S) (wanted : Option SeenOptions) (before now : S) (r : Result SeenStore OpenFault) → IsOpening s wanted before now r
     → OpensWithin (openings_due wanted) (s.opened before) (s.opened now)
@@ -189,8 +185,8 @@ opening_within s (Some a) before now r o =
 
 -- the datastore that is made lists no file twice
 pub opening_made : {S : Type 0} (s : shelf.Ghosts S) (wanted : Option SeenOptions) (before now : S) (store : SeenStore) → IsOpening s wanted before now (Ok store)
-    → (files : Files) → s.held before ≡ Some files → AreShort files → are_distinct store.files ≡ true
-opening_made s wanted before now store o files held short = due_distinct files wanted store (opening_due s wanted before now (Ok store) o files held short)
+    → (files : Files) → s.held before ≡ Some files → are_distinct store.files ≡ true
+opening_made s wanted before now store o files held = due_distinct files wanted store (opening_due s wanted before now (Ok store) o files held)
 
 -- ---- what a fault blames
 
@@ -206,13 +202,13 @@ opened_more s first name before now is h names all told end =
 larger : (n limit : ℕ) → (n ≤ limit → ⊥) → limit < n
 larger n limit never = omega (arith, never)
 
-too_long : (bytes : Option (List ℕ)) → (IfSome bytes (λ b. length b ≤ 2 ^ 50) → ⊥) → IfSome bytes (λ b. 2 ^ 50 < length b)
-too_long None never = tt
+too_long : (bytes : Option (List ℕ)) → (IfSome bytes (λ b. length b ≤ 2 ^ 50) → ⊥) → IsSomeAnd bytes (λ b. 2 ^ 50 < length b)
+too_long None never = never tt
 too_long (Some b) never = larger (length b) (2 ^ 50) never
 
-first_long : (files : Files) (wanted : Option SeenOptions) (name : List ℕ) → name ≡ first_given wanted → (FirstIsWithin files wanted → ⊥) → IfSome (file_in files name) (λ bytes. 2 ^ 50 < length bytes)
+first_long : (files : Files) (wanted : Option SeenOptions) (name : List ℕ) → name ≡ first_given wanted → (FirstIsWithin files wanted → ⊥) → IsTooLong files name
 first_long files None name is never = absurd (never tt)
-first_long files (Some o) name is never = subst (λ n. IfSome (file_in files n) (λ bytes. 2 ^ 50 < length bytes)) (sym is) (too_long (file_in files (first_name o.files)) never)
+first_long files (Some o) name is never = subst (IsTooLong files) (sym is) (too_long (file_in files (first_name o.files)) never)
 
 not_large : {S : Type 0} (s : shelf.Ghosts S) (wanted : Option SeenOptions) (before now : S) (name : List ℕ) → IsOpening s wanted before now (Err (fault.TooLarge name))
     → (files : Files) → s.held before ≡ Some files → FirstIsWithin files wanted → ⊥
@@ -228,6 +224,5 @@ opening_blames s wanted before now line (fault.TooLarge name) o = (
   o.explained,
   opened_more s (first_given wanted) name before now o.named o.opens,
   λ files held. first_long files wanted name o.named (λ within. not_large s wanted before now name o files held within),
-  λ files held short. not_large s wanted before now name o files held (first_within files wanted short),
 )
 opening_blames s wanted before now line fault.Memory o = tt

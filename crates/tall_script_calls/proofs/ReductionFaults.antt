@@ -1,9 +1,10 @@
 -- What a failure of mapreduce names and blames.
-use Rattle.std.proofs.Common.{◌≡◌, ◌<◌, ◌^◌, ℕ, List, [], length, refl, sym, ap, subst, ◌∙◌}
-use Rattle.std.specs.Prelude.{get_or, Option, None, Some, Result, Err, IfSome}
+use Rattle.std.proofs.Common.{◌≡◌, ◌<◌, ◌^◌, ℕ, List, [], refl, sym, ap, subst, ◌∙◌}
+use Rattle.std.specs.Prelude.{get_or, Option, None, Some, Result, Err}
 use Rattle.tall_outside.specs.declared.shelf.Shelf as shelf
 use Rattle.tall_outside.specs.Count.{Rose}
-use Rattle.tall_outside.specs.Shelf.{Files, file_in}
+use Rattle.tall_outside.specs.Shelf.{Files}
+use Rattle.tall_store.specs.FileEnds.{IsTooLong}
 use Rattle.tall_local.specs.Memory.{Memory}
 use Rattle.tall_local.specs.Refusals as refusal
 use Rattle.tall_local.specs.Refusals.{Stop, stop_at}
@@ -12,7 +13,7 @@ use Rattle.tall_gather.proofs.OnePass.{opened_here}
 use Rattle.tall_environment.specs.declared.failures.Failure.{Failure}
 use Rattle.tall_environment.specs.declared.failures.Failure.TheVariants as failure
 use Rattle.tall_environment.specs.declared.failures.Refusal.{Refusal}
-use Rattle.tall_environment.specs.Failures.{AreShort, Blames, IsOpened, refusal_seen, stop_of}
+use Rattle.tall_environment.specs.Failures.{Blames, IsOpened, refusal_seen, stop_of}
 use Rattle.tall_script_calls.specs.Reductions.{IsRead, IsTooLarge, StopsWith}
 
 -- ---- names
@@ -43,6 +44,17 @@ read_is_no_stop name failure.Memory h = refl
 pub read_stops : (want : Result Memory Stop) (name : List ℕ) (e : Failure) → IsRead name e → StopsWith want e
 read_stops want name e h stop named = absurd (never (stop_of e) stop (read_is_no_stop name e h) named)
 
+-- a failure to read a file that is too large is no stop
+large_is_no_stop : (name : List ℕ) (e : Failure) → IsTooLarge name e → stop_of e ≡ None
+large_is_no_stop name (failure.Refused line x) h = absurd h
+large_is_no_stop name (failure.Read file) h = absurd h
+large_is_no_stop name (failure.TooLarge file) h = refl
+large_is_no_stop name (failure.Changed file first now) h = absurd h
+large_is_no_stop name failure.Memory h = refl
+
+pub large_stops : (want : Result Memory Stop) (name : List ℕ) (e : Failure) → IsTooLarge name e → StopsWith want e
+large_stops want name e h stop named = absurd (never (stop_of e) stop (large_is_no_stop name e h) named)
+
 -- ---- causes
 
 module _ {S : Type 0} (s : shelf.Ghosts S) (files : List (List ℕ)) (file : ℕ) (answer : Answer) (before now : S) where
@@ -58,12 +70,10 @@ module _ {S : Type 0} (s : shelf.Ghosts S) (name : List ℕ) (before now : S) (o
   read_blames (failure.Changed file first last) h rose = absurd h
   read_blames failure.Memory h rose = tt
 
-  pub large_blames : (e : Failure) → IsTooLarge name e → 2 ^ 50 < s.came now → ((files : Files) → s.held before ≡ Some files → IfSome (file_in files name) (λ bytes. 2 ^ 50 < length bytes))
-      → ((files : Files) → s.held before ≡ Some files → AreShort files → ⊥) → Blames s e before now
-  large_blames (failure.Refused line x) h came longer short = absurd h
-  large_blames (failure.Read file) h came longer short = absurd h
-  large_blames (failure.TooLarge file) h came longer short =
-      subst (λ n. (2 ^ 50 < s.came now) × IsOpened s n before now × ((files : Files) → s.held before ≡ Some files → IfSome (file_in files n) (λ bytes. 2 ^ 50 < length bytes))
-      × ((files : Files) → s.held before ≡ Some files → AreShort files → ⊥)) (sym h) (came, opened, longer, short)
-  large_blames (failure.Changed file first last) h came longer short = absurd h
-  large_blames failure.Memory h came longer short = tt
+  pub large_blames : (e : Failure) → IsTooLarge name e → 2 ^ 50 < s.came now → ((files : Files) → s.held before ≡ Some files → IsTooLong files name) → Blames s e before now
+  large_blames (failure.Refused line x) h came longer = absurd h
+  large_blames (failure.Read file) h came longer = absurd h
+  large_blames (failure.TooLarge file) h came longer =
+      subst (λ n. (2 ^ 50 < s.came now) × IsOpened s n before now × ((files : Files) → s.held before ≡ Some files → IsTooLong files n)) (sym h) (came, opened, longer)
+  large_blames (failure.Changed file first last) h came longer = absurd h
+  large_blames failure.Memory h came longer = tt

@@ -15,10 +15,7 @@ use Rattle.tall_local.specs.Refusals.{Stop, bad_argument, stop_at}
 use Rattle.tall_local.specs.Expressions.{Valued, gives, stops}
 use Rattle.tall_local.specs.StateLaws.{state_after}
 use Rattle.tall_local.specs.Values.{in_memory}
-use Rattle.tall_memory.specs.declared.values.MemoryValue.{MemoryValue}
-use Rattle.tall_memory.specs.Values.{value_seen}
 use Rattle.tall_store.specs.Stores.{SeenStore}
-use Rattle.tall_walk.specs.Walked as walk
 use Rattle.tall_script.specs.MapReduce.{map_reduced}
 use Rattle.tall_script.specs.ScriptLanguage.{function_in, reduce_store, table_or_stop}
 use Rattle.tall_script.specs.ScriptValues.{TallValue}
@@ -32,9 +29,10 @@ use Rattle.tall_mapred.specs.declared.faults.MapFault.TheVariants as fault
 use Rattle.tall_mapred.specs.Answers.{Answer, NamesOne, OpensFiles}
 use Rattle.tall_gather.proofs.OnePass.{opens_most}
 use Rattle.tall_environment.specs.declared.failures.Failure.{Failure}
+use Rattle.tall_environment.specs.declared.failures.Failure.TheVariants as failure
 use Rattle.tall_environment.specs.Environments.{IsNext, SeenEnvironment, opening_of, state_at}
 use Rattle.tall_environment.specs.Expressions.{Answers, Evaluates, OpensOn}
-use Rattle.tall_environment.specs.Failures.{AreShort, Blames, IsInside, stop_of}
+use Rattle.tall_environment.specs.Failures.{Blames, IsInside, stop_of}
 use Rattle.tall_environment.specs.Moves.{OpensMore, OpensWithin}
 use Rattle.tall_environment.specs.EvaluationLaws.{evaluates_as, failed_evaluates, opens_same}
 use Rattle.tall_environment.specs.NumberLaws.{last_stays, next_is_last}
@@ -45,10 +43,6 @@ at_least : (n : ℕ) → n ≤ n
 at_least n = omega arith
 
 -- ---- the shelf
-
-pub short_files : (files : Files) (names : List (List ℕ)) → AreShort files → walk.AreShort files names
-short_files files [] short = tt
-short_files files (name ∷ names) short = (short name, short_files files names short)
 
 pub more_opened : (files : List (List ℕ)) (answer : Answer) (before now : Option (List (List ℕ))) → OpensFiles files answer before now → OpensMore before now
 more_opened files answer before now h names told =
@@ -79,28 +73,41 @@ module _ {S : Type 0} (s : shelf.Ghosts S) (d : Store) (store : SeenStore) (same
   of_store : (answer : Answer) → OpensFiles store.files answer (s.opened before) (s.opened now) → OpensFiles d.store.files answer (s.opened before) (s.opened now)
   of_store answer opens = subst (λ x. OpensFiles x.files answer (s.opened before) (s.opened now)) (sym same) opens
 
-  pub reduces_to : (t : List (List ℕ × SeenColumn)) (v : MemoryValue) → value_seen v ≡ table t → s.held now ≡ s.held before → IsLater (shelf_counts s before) (shelf_counts s now)
-      → OpensFiles store.files (Ok t) (s.opened before) (s.opened now) → ((files : Files) → s.held before ≡ Some files → walk.AreShort files store.files → want files ≡ Ok (table t))
-      → Reduces s d want before now (Ok (kept.Memory v))
-  reduces_to t v seen held counts opens told = record {
+  pub reduces_to : (t : List (List ℕ × SeenColumn)) (v : ScriptValue) → IsInMemory v → ((f : ℕ → Tall) → value_at f v ≡ in_memory (table t)) → s.held now ≡ s.held before → IsLater (shelf_counts s before) (shelf_counts s now)
+      → OpensFiles store.files (Ok t) (s.opened before) (s.opened now) → ((files : Files) → s.held before ≡ Some files → want files ≡ Ok (table t))
+      → Reduces s d want before now (Ok v)
+  reduces_to t v inside seen held counts opens told = record {
+    held = held;
+    counts = counts;
+    grows = more_opened d.store.files (Ok t) (s.opened before) (s.opened now) (of_store (Ok t) opens);
+    within = within_opened d (Ok t) (s.opened before) (s.opened now) (of_store (Ok t) opens);
+    kept = inside;
+    tells = λ files is. (table t, told files is, seen);
+    blames = tt;
+  }
+
+  -- the table is there, and no memory for its value
+  pub reduces_lost : (t : List (List ℕ × SeenColumn)) → s.held now ≡ s.held before → IsLater (shelf_counts s before) (shelf_counts s now) → OpensFiles store.files (Ok t) (s.opened before) (s.opened now)
+      → Reduces s d want before now (Err failure.Memory)
+  reduces_lost t held counts opens = record {
     held = held;
     counts = counts;
     grows = more_opened d.store.files (Ok t) (s.opened before) (s.opened now) (of_store (Ok t) opens);
     within = within_opened d (Ok t) (s.opened before) (s.opened now) (of_store (Ok t) opens);
     kept = tt;
-    tells = λ files is short. (table t, told files is (short_files files store.files short), λ f. ap in_memory seen);
+    tells = λ files is stop named. absurd (cc);
     blames = tt;
   }
 
   pub reduces_not : (failed : MapFault) (e : Failure) → s.held now ≡ s.held before → IsLater (shelf_counts s before) (shelf_counts s now) → OpensFiles store.files (Err failed) (s.opened before) (s.opened now)
-      → ((files : Files) → s.held before ≡ Some files → walk.AreShort files store.files → StopsWith (want files) e) → Blames s e before now → Reduces s d want before now (Err e)
+      → ((files : Files) → s.held before ≡ Some files → StopsWith (want files) e) → Blames s e before now → Reduces s d want before now (Err e)
   reduces_not failed e held counts opens told blames = record {
     held = held;
     counts = counts;
     grows = more_opened d.store.files (Err failed) (s.opened before) (s.opened now) (of_store (Err failed) opens);
     within = within_opened d (Err failed) (s.opened before) (s.opened now) (of_store (Err failed) opens);
     kept = tt;
-    tells = λ files is short. told files is (short_files files store.files short);
+    tells = told;
     blames = blames;
   }
 
@@ -159,13 +166,13 @@ evaluates_to s n place e d want before now r there next h = record {
       more = opened_once d;
       allowed = refl;
       grows = h.grows;
-      distinct = λ files told short are. are;
-      within = λ files told short are. h.within (are place d there);
+      distinct = λ files told are. are;
+      within = λ files told are. h.within (are place d there);
     };
   };
   within = in_memory_fits (length e.graph) r h.kept;
   last = if_ok r (last_stays n e (record e { opened = e.opened ++ opened_once d }) refl refl (next_is_last n e next));
-  tells = λ files told short columns f sense. answers_by f (want files) (with_openings (opened_once d) (state_at f e)) r (h.tells files told short);
+  tells = λ files told columns f sense. answers_by f (want files) (with_openings (opened_once d) (state_at f e)) r (h.tells files told);
   blames = h.blames;
 }
 

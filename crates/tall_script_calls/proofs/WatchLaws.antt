@@ -71,9 +71,9 @@ left P false (Err (fault.Failed file)) free h = free
 left P false (Err (fault.TooLarge file)) free h = free
 left P false (Err fault.Memory) free h = h
 
-told_free : (held : Option Files) (wanted : Option SeenOptions) → IfSome held (λ files. FirstIsWithin files wanted → OpensTo (store_due files wanted) (Err fault.Memory))
+told_free : (held : Option Files) (wanted : Option SeenOptions) → IfSome held (λ files. OpensTo (store_due files wanted) (Err fault.Memory))
 told_free None wanted = tt
-told_free (Some files) wanted = λ within. tt
+told_free (Some files) wanted = tt
 
 within_free : (held : Option Files) (wanted : Option SeenOptions) → IfSome held (λ files. FirstIsWithin files wanted → unnamed (Err fault.Memory) ≢ Err store_fault.TooLarge)
 within_free None wanted = tt
@@ -81,7 +81,7 @@ within_free (Some files) wanted = λ within e. memory_large e
 
 module _ {S : Type 0} (s : shelf.Ghosts S) (wanted : Option SeenOptions) (before now : S) (r : Result SeenStore OpenFault) where
   pub checked_opening : (asked : Bool)
-      → IfSome (s.held before) (λ files. FirstIsWithin files wanted → OpensTo (store_due files wanted) r)
+      → IfSome (s.held before) (λ files. OpensTo (store_due files wanted) r)
       → IfSome (s.held before) (λ files. FirstIsWithin files wanted → unnamed r ≢ Err store_fault.TooLarge)
       → s.held now ≡ s.held before
       → IsExplained (unnamed r) (shelf_counts s before) (shelf_counts s now)
@@ -92,7 +92,7 @@ module _ {S : Type 0} (s : shelf.Ghosts S) (wanted : Option SeenOptions) (before
       → HasMore asked (s.opened before) (s.opened now)
       → IsOpening s wanted before now (checked asked r)
   checked_opening asked told within held explained named later refused once more = record {
-    told = left (λ x. IfSome (s.held before) (λ files. FirstIsWithin files wanted → OpensTo (store_due files wanted) x)) asked r (told_free (s.held before) wanted) told;
+    told = left (λ x. IfSome (s.held before) (λ files. OpensTo (store_due files wanted) x)) asked r (told_free (s.held before) wanted) told;
     within = left (λ x. IfSome (s.held before) (λ files. FirstIsWithin files wanted → unnamed x ≢ Err store_fault.TooLarge)) asked r (within_free (s.held before) wanted) within;
     held = held;
     explained = left (λ x. IsExplained (unnamed x) (shelf_counts s before) (shelf_counts s now)) asked r tt explained;

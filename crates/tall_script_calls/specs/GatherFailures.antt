@@ -30,12 +30,12 @@ IsNamed list (fault.TooLarge store file) = HasFile list store file
 IsNamed list (fault.Changed store file first last) = HasFile list store file
 IsNamed list fault.Memory = ⊤
 
--- it may come where the files are told and short
+-- it may come where the files are told
 abbrev pub MayBeTold : GatherFault → Type 0
 MayBeTold (fault.Data x) = ⊤
 MayBeTold (fault.Reading store g) = ⊤
 MayBeTold (fault.Read store file) = ⊤
-MayBeTold (fault.TooLarge store file) = ⊥
+MayBeTold (fault.TooLarge store file) = ⊤
 MayBeTold (fault.Changed store file first last) = ⊥
 MayBeTold fault.Memory = ⊤
 

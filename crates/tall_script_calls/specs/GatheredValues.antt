@@ -1,6 +1,5 @@
 -- Which values may be gathered, their tall nodes in order, and what they come to where the column of each node is told.
 use Rattle.std.specs.Prelude.{ℕ, Bool, true, false, List, [], ◌∷◌, map, Option, None, Some}
-use Rattle.std.specs.List.{flat_map}
 use Rattle.tall_value.specs.Cells.{Seen}
 use Rattle.tall_column.specs.Columns.{SeenColumn}
 use Rattle.tall_semantics.specs.Deferred.{Vertex}
@@ -11,10 +10,10 @@ use Rattle.tall_local.specs.Lists.{all_of}
 use Rattle.tall_local.specs.Memory.{Memory, scalar, column, table, texts}
 use Rattle.tall_memory.specs.declared.values.MemoryValue.{MemoryValue}
 use Rattle.tall_memory.specs.declared.values.MemoryValue.TheVariants as memory
-use Rattle.tall_memory.specs.Values.{value_seen}
 use Rattle.tall_deferred.specs.declared.values.ScriptValue.{ScriptValue}
 use Rattle.tall_deferred.specs.declared.values.ScriptValue.TheVariants as kept
 use Rattle.tall_deferred.specs.declared.values.Variable.{Variable}
+use Rattle.tall_deferred.specs.Values.{shared_seen}
 use Rattle.tall_script.specs.Gathers.{gather_openings}
 use Rattle.tall_script.specs.ScriptValues.{TallValue}
 use Rattle.tall_script.specs.States.{Openings}
@@ -31,7 +30,7 @@ abbrev pub may_gather : ScriptValue → Bool
 may_gather (kept.Datastore place) = false
 may_gather (kept.Table xs) = true
 may_gather (kept.Tall n) = true
-may_gather (kept.Memory v) = is_no_list v
+may_gather (kept.Memory v) = is_no_list v.value
 
 -- ---- roots
 
@@ -71,7 +70,7 @@ abbrev pub memory_by : (single : ℕ → Bool) → (g : ℕ → SeenColumn) → 
 memory_by single g (kept.Datastore place) = texts []
 memory_by single g (kept.Table xs) = table (map (variable_by g) xs.items)
 memory_by single g (kept.Tall n) = root_memory (single n) (g n)
-memory_by single g (kept.Memory v) = value_seen v
+memory_by single g (kept.Memory v) = shared_seen v
 
 abbrev pub memories_by : (single : ℕ → Bool) → (g : ℕ → SeenColumn) → List ScriptValue → List Memory
 memories_by single g vs = map (memory_by single g) vs

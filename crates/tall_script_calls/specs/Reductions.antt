@@ -17,7 +17,7 @@ use Rattle.tall_deferred.specs.Values.{IsInMemory, value_at}
 use Rattle.tall_environment.specs.declared.failures.Failure.{Failure}
 use Rattle.tall_environment.specs.declared.failures.Failure.TheVariants as failure
 use Rattle.tall_environment.specs.declared.failures.Refusal.{Refusal}
-use Rattle.tall_environment.specs.Failures.{AreShort, Blames, refusal_seen, stop_of}
+use Rattle.tall_environment.specs.Failures.{Blames, refusal_seen, stop_of}
 use Rattle.tall_environment.specs.Moves.{OpensMore, OpensWithin}
 use Rattle.tall_script_calls.specs.declared.reducing.Reduced.{Reduced}
 
@@ -88,5 +88,5 @@ pub record Reduces {S : Type 0} (s : shelf.Ghosts S) (d : Store) (want : Files �
   pub grows : OpensMore (s.opened before) (s.opened now)
   pub within : are_distinct d.store.files ≡ true → OpensWithin (opened_once d) (s.opened before) (s.opened now)
   pub kept : IfOk r IsInMemory
-  pub tells : (files : Files) → s.held before ≡ Some files → AreShort files → TellsValue (want files) r
+  pub tells : (files : Files) → s.held before ≡ Some files → TellsValue (want files) r
   pub blames : IfErr r (λ e. Blames s e before now)

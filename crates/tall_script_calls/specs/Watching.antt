@@ -46,7 +46,7 @@ OpensFor name (Err fault.Memory) before now = OpensOnce name before now
 
 -- what the opening of a datastore by options comes to, between two moments of the shelf
 pub record IsOpening {S : Type 0} (s : shelf.Ghosts S) (wanted : Option SeenOptions) (before now : S) (r : Result SeenStore OpenFault) : Type 0 where
-  pub told : IfSome (s.held before) (λ files. FirstIsWithin files wanted → OpensTo (store_due files wanted) r)
+  pub told : IfSome (s.held before) (λ files. OpensTo (store_due files wanted) r)
   pub within : IfSome (s.held before) (λ files. FirstIsWithin files wanted → unnamed r ≢ Err store_fault.TooLarge)
   pub held : s.held now ≡ s.held before
   pub explained : IsExplained (unnamed r) (shelf_counts s before) (shelf_counts s now)

@@ -1,5 +1,5 @@
 //! Gathers of a script (docs/LANGUAGE.md, functions).
-ghost use Rattle.std.specs.Prelude.{◌≡◌, ◌<◌, ◌≤◌, ◌++◌, ◌∷◌, [], ℕ, Err, IfErr, IfNone, IfOk, IfSome, List, None, OnOk, Some, length, map, option_map, slice_get, true};
+ghost use Rattle.std.specs.Prelude.{◌≡◌, ◌<◌, ◌≤◌, ◌++◌, ◌∷◌, [], ℕ, Err, IfErr, IfNone, IfOk, IfSome, List, None, OnOk, Some, length, map, option_map, true};
 ghost use Rattle.std.specs.List.{All, flat_map, list_all};
 ghost use Rattle.std.specs.Result.{result_map_both};
 ghost use Rattle.std.specs.Vec.Iter.{into_iter_items};
@@ -8,8 +8,6 @@ ghost use Rattle.tall_column.specs.Columns.{SeenColumn};
 ghost use Rattle.tall_column.specs.Tables.{FitsHeight, column_named};
 ghost use Rattle.tall_semantics.specs.Deferred.{AllBelow, least_in};
 ghost use Rattle.tall_semantics.specs.Talls.{Columns, Tall};
-ghost use Rattle.tall_store.specs.FileEnds.{name_of_file};
-ghost use Rattle.tall_store.specs.Stores.{SeenStore};
 ghost use Rattle.tall_local.specs.Memory.{Memory};
 ghost use Rattle.tall_local.specs.Refusals.{Stop};
 ghost use Rattle.tall_memory.specs.Values.{value_seen};
@@ -18,13 +16,13 @@ ghost use Rattle.tall_local.specs.Values.{in_memory};
 ghost use Rattle.tall_script.specs.Gathers.{gather_all, gather_call, gather_value};
 ghost use Rattle.tall_script.specs.ReadingFaults.{stop_of_fault};
 ghost use Rattle.tall_evaluate.specs.Senses.{ArgumentsFit};
-ghost use Rattle.tall_deferred.specs.Values.{IsValue, at_seen, value_at};
+ghost use Rattle.tall_deferred.specs.Values.{IsValue, at_seen, shared_seen, value_at};
 ghost use Rattle.tall_sources.specs.Sources.{store_in};
 ghost use Rattle.tall_gather.specs.Gathered.{AreRootColumns, TellsGather};
 ghost use Rattle.tall_gather.specs.Going.{IsCaused};
 ghost use Rattle.tall_environment.specs.Environments.{IsNext};
 ghost use Rattle.tall_environment.specs.Expressions.{Evaluates, IsSense, Tells, memories_at, values_at};
-ghost use Rattle.tall_environment.specs.Failures.{AreShort, Blames, stop_of};
+ghost use Rattle.tall_environment.specs.Failures.{Blames, stop_of};
 ghost use Rattle.tall_environment.specs.Moves.{Moves};
 ghost use Rattle.tall_environment.specs.Values.{arguments_at};
 ghost use Rattle.tall_script_calls.specs.GatherFailures.{HasFile, HasReading, IsFailureOf, IsNameOf, IsNamed, MayBeTold};
@@ -33,6 +31,7 @@ ghost use Rattle.tall_script_calls.specs.GatheredValues.{is_no_list, may_gather,
 
 use crate::faults::reading_failure;
 use std::alloc::{AllocError, Global};
+use std::rc::Rc;
 use std::thread::Threads;
 use std::vec::IntoIter;
 use tall_column::{Column, Table};
@@ -62,7 +61,7 @@ fn may_gather(value: &ScriptValue) -> bool
         ScriptValue::Datastore(_) => false,
         ScriptValue::Table(_) => true,
         ScriptValue::Tall(_) => true,
-        ScriptValue::Memory(value) => is_no_list(value),
+        ScriptValue::Memory(value) => is_no_list(&**value),
     }
 }
 
@@ -181,6 +180,16 @@ fn root_value(alloc: Global, is_scalar: bool, column: Column) -> Result<MemoryVa
     }
 }
 
+/// A value in memory that may be shared.
+fn shared(alloc: Global, value: MemoryValue) -> Result<Rc<MemoryValue>, AllocError>
+    ensures { IfOk result (λ m. shared_seen m ≡ value_seen value) }
+{
+    match Rc::new(alloc, value) {
+        Ok(value) => Ok(value),
+        Err(_) => Err(AllocError),
+    }
+}
+
 /// The value of a node, of the next column.
 fn node_value(
     alloc: Global,
@@ -195,23 +204,26 @@ fn node_value(
     }
 }
 
-/// A value that may be gathered, of the next columns.
+/// A value that may be gathered, of the next columns; one in memory is its own.
 fn value_of(
     alloc: Global,
     graph: &Graph,
     value: ScriptValue,
     columns: &mut IntoIter<Column>,
-) -> Result<MemoryValue, AllocError>
+) -> Result<Rc<MemoryValue>, AllocError>
     requires { IsValue (length graph.now) value }
-    ensures { (g : ℕ → SeenColumn) (rest : List SeenColumn) → into_iter_items columns.old ≡ map g (nodes_in value) ++ rest → IfOk result (λ m. (value_seen m ≡ memory_by (single_in graph.now) g value) × (into_iter_items columns.new ≡ rest)) }
+    ensures { (g : ℕ → SeenColumn) (rest : List SeenColumn) → into_iter_items columns.old ≡ map g (nodes_in value) ++ rest → IfOk result (λ m. (shared_seen m ≡ memory_by (single_in graph.now) g value) × (into_iter_items columns.new ≡ rest)) }
 {
     match value {
         ScriptValue::Datastore(_) => Err(AllocError),
         ScriptValue::Table(variables) => {
             let table = table_of(alloc, variables.as_slice(), columns)?;
-            Ok(MemoryValue::table(table))
+            shared(alloc, MemoryValue::table(table))
         }
-        ScriptValue::Tall(node) => node_value(alloc, graph.is_scalar(node), columns),
+        ScriptValue::Tall(node) => {
+            let value = node_value(alloc, graph.is_scalar(node), columns)?;
+            shared(alloc, value)
+        }
         ScriptValue::Memory(value) => Ok(value),
     }
 }
@@ -222,9 +234,9 @@ fn values_of(
     graph: &Graph,
     values: Vec<ScriptValue>,
     columns: Vec<Column>,
-) -> Result<Vec<MemoryValue>, AllocError>
+) -> Result<Vec<Rc<MemoryValue>>, AllocError>
     requires { All (IsValue (length graph.now)) values.items }
-    ensures { (g : ℕ → SeenColumn) → columns.items ≡ map g (flat_map nodes_in values.items) → IfOk result (λ ms. map value_seen ms.items ≡ memories_by (single_in graph.now) g values.items) }
+    ensures { (g : ℕ → SeenColumn) → columns.items ≡ map g (flat_map nodes_in values.items) → IfOk result (λ ms. map shared_seen ms.items ≡ memories_by (single_in graph.now) g values.items) }
 {
     let mut found = Vec::with_capacity(alloc, values.len())?;
     let mut values = values.into_iter();
@@ -253,8 +265,8 @@ fn columns_of<R: Threads + Sync, S: Shelf + Send, G: Gate + Sync>(
     ensures moves { Moves S.Shelf environment.old environment.new shelf.old shelf.new }
     ensures columns { IfOk result (λ v. AreRootColumns environment.old.graph roots.now v.items) }
     ensures caused { IfErr result (λ e. IsCaused S.Shelf (map store_in environment.old.stores) e shelf.old shelf.new) }
-    ensures possible { IfErr result (λ e. (files : Files) → S.held shelf.old ≡ Some files → AreShort files → MayBeTold e) }
-    ensures told { (files : Files) → S.held shelf.old ≡ Some files → AreShort files → (columns : Columns) (f : ℕ → Tall) → IsSense files environment.old columns f → TellsGather environment.old.stores f roots.now (result_map_both (λ v. v.items) (λ e. e) result) }
+    ensures possible { IfErr result (λ e. (files : Files) → S.held shelf.old ≡ Some files → MayBeTold e) }
+    ensures told { (files : Files) → S.held shelf.old ≡ Some files → (columns : Columns) (f : ℕ → Tall) → IsSense files environment.old columns f → TellsGather environment.old.stores f roots.now (result_map_both (λ v. v.items) (λ e. e) result) }
 {
     environment.keeps_its_rules();
     environment.has_a_sense();
@@ -355,7 +367,7 @@ pub fn gather_all<R: Threads + Sync, S: Shelf + Send, G: Gate + Sync>(
     workers: u32,
     line: u32,
     values: Vec<ScriptValue>,
-) -> Result<Vec<MemoryValue>, Failure>
+) -> Result<Vec<Rc<MemoryValue>>, Failure>
     requires some { 0 < workers }
     requires few { workers ≤ 64 }
     requires within { All (IsValue (length environment.old.graph)) values.items }
@@ -408,8 +420,8 @@ fn only_value(args: Vec<Argument<'_, ScriptValue>>) -> Option<ScriptValue>
 }
 
 /// The only value, where there is one.
-fn only(mut values: Vec<MemoryValue>) -> Option<MemoryValue>
-    ensures { (m : Memory) → map value_seen values.items ≡ m ∷ [] → IfSome result (λ v. value_seen v ≡ m) }
+fn only(mut values: Vec<Rc<MemoryValue>>) -> Option<Rc<MemoryValue>>
+    ensures { (m : Memory) → map shared_seen values.items ≡ m ∷ [] → IfSome result (λ v. shared_seen v ≡ m) }
 {
     values.pop()
 }

@@ -16,7 +16,7 @@ ghost use Rattle.tall_script.specs.States.{Store};
 ghost use Rattle.tall_deferred.specs.Values.{IsValue, at_seen, value_at};
 ghost use Rattle.tall_environment.specs.Environments.{IsNext};
 ghost use Rattle.tall_environment.specs.Expressions.{Evaluates, setting_in};
-ghost use Rattle.tall_environment.specs.Failures.{AreShort, Blames, IsInside, IsWithin, refusal_seen, stop_of};
+ghost use Rattle.tall_environment.specs.Failures.{Blames, IsInside, IsWithin, refusal_seen, stop_of};
 ghost use Rattle.tall_environment.specs.Values.{arguments_at};
 ghost use Rattle.tall_script_calls.specs.Reductions.{Accepts, IsRead, IsTooLarge, Reduces, StopsWith, both_names, last_name, reduced_by};
 
@@ -223,7 +223,7 @@ fn map_failure<S: Shelf>(alloc: Global, store: &Datastore, line: u32, fault: Map
     requires placed { IsPlaced store.now (Err fault) }
     requires named { NamesOne (Err fault) (length store.now.files) }
     ensures stops { (d : Store) (want : Result Memory Stop) → d.store ≡ store.now → d.at.line ≡ line → Tells d want (Err fault) → StopsWith want result }
-    ensures blames { (before now : S) (d : Store) (want : Files → Result Memory Stop) → IsExplained (Err fault) (shelf_counts S.Shelf before) (shelf_counts S.Shelf now) → OpensFiles store.now.files (Err fault) (S.opened before) (S.opened now) → ((files : Files) → S.held before ≡ Some files → IsLonger store.now files (Err fault)) → ((files : Files) → S.held before ≡ Some files → AreShort files → Tells d (want files) (Err fault)) → Blames S.Shelf result before now }
+    ensures blames { (before now : S) → IsExplained (Err fault) (shelf_counts S.Shelf before) (shelf_counts S.Shelf now) → OpensFiles store.now.files (Err fault) (S.opened before) (S.opened now) → ((files : Files) → S.held before ≡ Some files → IsLonger store.now files (Err fault)) → Blames S.Shelf result before now }
 {
     match fault {
         MapFault::At { line, row, kind } => Failure::Refused {
@@ -256,7 +256,10 @@ fn reduced_table<R: Threads + Sync, S: Shelf + Send, G: Gate + Sync>(
     ensures { (d : Store) → d.store ≡ store.now → d.at.line ≡ line → Reduces S.Shelf d (λ files. map_reduced files d (routine_of map.now) (routine_of reduce.now)) shelf.old shelf.new result }
 {
     match mapreduce(rt, alloc, gate, shelf, store, map, reduce, workers) {
-        Ok(table) => Ok(ScriptValue::Memory(MemoryValue::table(table))),
+        Ok(table) => match ScriptValue::in_memory(alloc, MemoryValue::table(table)) {
+            Ok(value) => Ok(value),
+            Err(_) => Err(Failure::Memory),
+        },
         Err(fault) => Err(map_failure::<S>(alloc, store, line, fault)),
     }
 }

@@ -17,7 +17,7 @@ ghost use Rattle.tall_script_calls.specs.Single.{is_table, is_table_in_memory, s
 use std::alloc::Global;
 use tall_column::Value;
 use tall_deferred::{At, ScriptValue, ValueFault};
-use tall_environment::{Environment, copied_value};
+use tall_environment::{Environment, shared};
 use tall_evaluate::Argument;
 use tall_memory::MemoryValue;
 
@@ -130,17 +130,17 @@ fn is_table(value: &ScriptValue) -> bool
         ScriptValue::Datastore(_) => false,
         ScriptValue::Table(_) => false,
         ScriptValue::Tall(_) => false,
-        ScriptValue::Memory(value) => is_table_in_memory(value),
+        ScriptValue::Memory(value) => is_table_in_memory(&**value),
     }
 }
 
-/// A table in memory, copied.
-fn copied_table(alloc: Global, value: &ScriptValue) -> Result<ScriptValue, ValueFault>
+/// A table in memory once more.
+fn shared_table(alloc: Global, value: &ScriptValue) -> Result<ScriptValue, ValueFault>
     ensures within { (n : ℕ) → IsValue n value.now → IfOk result (IsValue n) }
     ensures given { (f : ℕ → Tall) → Comes (value_at f) (readall_answer (Some (value_at f value.now ∷ []))) result }
 {
     if is_table(value) {
-        return copied_value(alloc, value);
+        return shared(alloc, value);
     }
     Err(ValueFault::BadClass)
 }
@@ -160,7 +160,7 @@ pub fn read_all(
     ensures { Computes at.number (λ files f. readall_answer (all_of value_given (arguments_at f args.now))) environment.old environment.new result }
 {
     match single(args) {
-        Some(value) => copied_table(alloc, value),
+        Some(value) => shared_table(alloc, value),
         None => Err(ValueFault::BadArgument),
     }
 }

@@ -48,9 +48,9 @@ one_opens files due (Err (fault.TooLarge name)) of h = tt
 one_opens files due (Err fault.Memory) of h = tt
 
 pub opens_told : (held : Option Files) (o : SeenOptions) (r : Result SeenStore StoreFault) (result : Result SeenStore OpenFault) → r ≡ unnamed result → IfErr result (IsOf (first_name o.files))
-    → IfSome held (λ files. IsWithin files o → Opens (opening files o) r) → IfSome held (λ files. IsWithin files o → OpensTo (store_due files (Some o)) result)
+    → IfSome held (λ files. Opens (opening files o) r) → IfSome held (λ files. OpensTo (store_due files (Some o)) result)
 opens_told None o r result e of h = tt
-opens_told (Some files) o r result e of h = λ within. one_opens o.files (opening files o) result of (subst (Opens (opening files o)) e (h within))
+opens_told (Some files) o r result e of h = one_opens o.files (opening files o) result of (subst (Opens (opening files o)) e h)
 
 pub opens_within : (held : Option Files) (o : SeenOptions) (r : Result SeenStore StoreFault) (result : Result SeenStore OpenFault) → r ≡ unnamed result
     → IfSome held (λ files. IsWithin files o → r ≢ Err store_fault.TooLarge) → IfSome held (λ files. IsWithin files o → unnamed result ≢ Err store_fault.TooLarge)

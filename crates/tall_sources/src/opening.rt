@@ -66,7 +66,7 @@ fn open_named<S: Shelf>(
 ) -> Result<Datastore, OpenFault>
     requires few { length options.files.items < 2 ^ 20 }
     requires first { first ≡ first_name (options_seen options).files }
-    ensures told { IfSome (S.held shelf.old) (λ files. IsWithin files (options_seen options) → OpensTo (store_due files (Some (options_seen options))) result) }
+    ensures told { IfSome (S.held shelf.old) (λ files. OpensTo (store_due files (Some (options_seen options))) result) }
     ensures within { IfSome (S.held shelf.old) (λ files. IsWithin files (options_seen options) → unnamed result ≢ Err store_fault.TooLarge) }
     ensures held { S.held shelf.new ≡ S.held shelf.old }
     ensures explained { IsExplained (unnamed result) (shelf_counts S.Shelf shelf.old) (shelf_counts S.Shelf shelf.new) }
@@ -87,7 +87,7 @@ fn open_options<S: Shelf>(
     shelf: &mut S,
     options: Options,
 ) -> Result<Datastore, OpenFault>
-    ensures told { IfSome (S.held shelf.old) (λ files. IsWithin files (options_seen options) → OpensTo (store_due files (Some (options_seen options))) result) }
+    ensures told { IfSome (S.held shelf.old) (λ files. OpensTo (store_due files (Some (options_seen options))) result) }
     ensures within { IfSome (S.held shelf.old) (λ files. IsWithin files (options_seen options) → unnamed result ≢ Err store_fault.TooLarge) }
     ensures held { S.held shelf.new ≡ S.held shelf.old }
     ensures explained { IsExplained (unnamed result) (shelf_counts S.Shelf shelf.old) (shelf_counts S.Shelf shelf.new) }
@@ -119,7 +119,7 @@ pub fn open_datastore<S: Shelf>(
     args: &[ScriptRef<'_>],
 ) -> Result<Datastore, OpenFault>
     ensures given { (f : ℕ → Tall) → option_and_then arguments.options_given (all_of value_in_memory (map (lent_at f) args.now)) ≡ options_lent args.now }
-    ensures told { IfSome (S.held shelf.old) (λ files. FirstIsWithin files (options_lent args.now) → OpensTo (store_due files (options_lent args.now)) result) }
+    ensures told { IfSome (S.held shelf.old) (λ files. OpensTo (store_due files (options_lent args.now)) result) }
     ensures within { IfSome (S.held shelf.old) (λ files. FirstIsWithin files (options_lent args.now) → unnamed result ≢ Err store_fault.TooLarge) }
     ensures held { S.held shelf.new ≡ S.held shelf.old }
     ensures explained { IsExplained (unnamed result) (shelf_counts S.Shelf shelf.old) (shelf_counts S.Shelf shelf.new) }

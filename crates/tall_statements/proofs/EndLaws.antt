@@ -32,9 +32,6 @@ opens_same s t e = ([], e ∙ sym (append-nil s.opened))
 no_stop : (stop : Stop) → None ≡ Some stop → ⊥
 no_stop stop e = cc
 
-a_stop : (stop : Stop) → Some stop ≡ None → ⊥
-a_stop stop e = cc
-
 not_ok : {V E : Type 0} (v : V) (e : E) → Ok v ≡ Err e → ⊥
 not_ok v e h = cc
 

@@ -5,13 +5,11 @@ use Rattle.std.specs.Str.{bytes_eq}
 use Rattle.tall_local.specs.Memory.{Memory}
 use Rattle.tall_local.specs.Names.{put_name}
 use Rattle.tall_local.specs.Values.{in_memory}
-use Rattle.tall_memory.specs.declared.values.MemoryValue.{MemoryValue}
-use Rattle.tall_memory.specs.Values.{value_seen}
 use Rattle.tall_semantics.specs.Deferred.{IsMeaning}
 use Rattle.tall_semantics.specs.Talls.{Columns, Tall}
 use Rattle.tall_deferred.specs.declared.values.ScriptValue.{ScriptValue}
 use Rattle.tall_deferred.specs.declared.values.ScriptValue.TheVariants as kept
-use Rattle.tall_deferred.specs.Values.{value_at}
+use Rattle.tall_deferred.specs.Values.{Shared, shared_seen, value_at}
 use Rattle.tall_script.specs.States.{State}
 use Rattle.tall_script.specs.Statements.{Done, set_name, set_names, shown_text, shows}
 use Rattle.tall_script.specs.StatesFollow.{done_state}
@@ -42,20 +40,20 @@ meant_still columns f first e h m = subst (λ g. IsMeaning columns g f) (sym (ap
 
 -- ---- names that get their values, one after another
 
-pub named_turn : (f : ℕ → Tall) (shown : Bool) (name : List ℕ) (rest names : List (List ℕ)) (v : MemoryValue) (vs more : List MemoryValue) (text later : List ℕ) (e new : SeenEnvironment) (all : Done)
-    → names ≡ name ∷ rest → more ≡ v ∷ vs → later ≡ text ++ shown_text shown name (in_memory (value_seen v)) → new ≡ record e { names = put_name name (kept.Memory v) e.names }
-    → set_names shown names (map value_seen more) text (state_at f e) ≡ all → set_names shown rest (map value_seen vs) later (state_at f new) ≡ all
+pub named_turn : (f : ℕ → Tall) (shown : Bool) (name : List ℕ) (rest names : List (List ℕ)) (v : Shared) (vs more : List Shared) (text later : List ℕ) (e new : SeenEnvironment) (all : Done)
+    → names ≡ name ∷ rest → more ≡ v ∷ vs → later ≡ text ++ shown_text shown name (in_memory (shared_seen v)) → new ≡ record e { names = put_name name (kept.Memory v) e.names }
+    → set_names shown names (map shared_seen more) text (state_at f e) ≡ all → set_names shown rest (map shared_seen vs) later (state_at f new) ≡ all
 named_turn f shown name rest names v vs more text later e new all n m t s h =
-    ap (λ u. set_names shown rest (map value_seen vs) u (state_at f new)) t
-    ∙ (ap (λ o. set_names shown rest (map value_seen vs) (text ++ shown_text shown name (in_memory (value_seen v))) (state_at f o)) s
-    ∙ (ap (λ o. set_names shown rest (map value_seen vs) (text ++ shown_text shown name (in_memory (value_seen v))) o) (set_at f name (kept.Memory v) e)
-    ∙ (sym (ap (λ ns. set_names shown ns (map value_seen more) text (state_at f e)) n ∙ ap (λ us. set_names shown (name ∷ rest) (map value_seen us) text (state_at f e)) m) ∙ h)))
+    ap (λ u. set_names shown rest (map shared_seen vs) u (state_at f new)) t
+    ∙ (ap (λ o. set_names shown rest (map shared_seen vs) (text ++ shown_text shown name (in_memory (shared_seen v))) (state_at f o)) s
+    ∙ (ap (λ o. set_names shown rest (map shared_seen vs) (text ++ shown_text shown name (in_memory (shared_seen v))) o) (set_at f name (kept.Memory v) e)
+    ∙ (sym (ap (λ ns. set_names shown ns (map shared_seen more) text (state_at f e)) n ∙ ap (λ us. set_names shown (name ∷ rest) (map shared_seen us) text (state_at f e)) m) ∙ h)))
 
 -- a turn of the loop
-pub named_more : (f : ℕ → Tall) (shown : Bool) (columns : Columns) (name : List ℕ) (rest names : List (List ℕ)) (v : MemoryValue) (vs more : List MemoryValue) (text later : List ℕ) (first e new : SeenEnvironment) (all : Done)
+pub named_more : (f : ℕ → Tall) (shown : Bool) (columns : Columns) (name : List ℕ) (rest names : List (List ℕ)) (v : Shared) (vs more : List Shared) (text later : List ℕ) (first e new : SeenEnvironment) (all : Done)
     → e ≡ record first { names = e.names } → names ≡ name ∷ rest → more ≡ v ∷ vs → new ≡ record e { names = put_name name (kept.Memory v) e.names }
-    → (IsMeaning columns e.graph f → later ≡ text ++ shown_text shown name (in_memory (value_seen v))) → IsMeaning columns first.graph f
-    → (IsMeaning columns first.graph f → set_names shown names (map value_seen more) text (state_at f e) ≡ all) → set_names shown rest (map value_seen vs) later (state_at f new) ≡ all
+    → (IsMeaning columns e.graph f → later ≡ text ++ shown_text shown name (in_memory (shared_seen v))) → IsMeaning columns first.graph f
+    → (IsMeaning columns first.graph f → set_names shown names (map shared_seen more) text (state_at f e) ≡ all) → set_names shown rest (map shared_seen vs) later (state_at f new) ≡ all
 named_more f shown columns name rest names v vs more text later first e new all same n m s told meaning h =
     named_turn f shown name rest names v vs more text later e new all n m (told (meant_still columns f first e same meaning)) s (h meaning)
 
@@ -63,13 +61,13 @@ none_left : (shown : Bool) (names : List (List ℕ)) (text : List ℕ) (s : Stat
 none_left shown [] text s = refl
 none_left shown (name ∷ names) text s = refl
 
-pub values_end : (f : ℕ → Tall) (shown : Bool) (names : List (List ℕ)) (more : List MemoryValue) (text : List ℕ) (e : SeenEnvironment) (all : Done)
-    → more ≡ [] → set_names shown names (map value_seen more) text (state_at f e) ≡ all → all ≡ shows text (state_at f e)
-values_end f shown names more text e all m h = sym h ∙ (ap (λ us. set_names shown names (map value_seen us) text (state_at f e)) m ∙ none_left shown names text (state_at f e))
+pub values_end : (f : ℕ → Tall) (shown : Bool) (names : List (List ℕ)) (more : List Shared) (text : List ℕ) (e : SeenEnvironment) (all : Done)
+    → more ≡ [] → set_names shown names (map shared_seen more) text (state_at f e) ≡ all → all ≡ shows text (state_at f e)
+values_end f shown names more text e all m h = sym h ∙ (ap (λ us. set_names shown names (map shared_seen us) text (state_at f e)) m ∙ none_left shown names text (state_at f e))
 
-pub names_end : (f : ℕ → Tall) (shown : Bool) (names : List (List ℕ)) (more : List MemoryValue) (text : List ℕ) (e : SeenEnvironment) (all : Done)
-    → names ≡ [] → set_names shown names (map value_seen more) text (state_at f e) ≡ all → all ≡ shows text (state_at f e)
-names_end f shown names more text e all n h = sym h ∙ ap (λ ns. set_names shown ns (map value_seen more) text (state_at f e)) n
+pub names_end : (f : ℕ → Tall) (shown : Bool) (names : List (List ℕ)) (more : List Shared) (text : List ℕ) (e : SeenEnvironment) (all : Done)
+    → names ≡ [] → set_names shown names (map shared_seen more) text (state_at f e) ≡ all → all ≡ shows text (state_at f e)
+names_end f shown names more text e all n h = sym h ∙ ap (λ ns. set_names shown ns (map shared_seen more) text (state_at f e)) n
 
 -- names open nothing
 pub names_open : (shown : Bool) (names : List (List ℕ)) (vs : List Memory) (text : List ℕ) (s : State Tall) → (done_state (set_names shown names vs text s)).opened ≡ s.opened

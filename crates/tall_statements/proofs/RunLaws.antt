@@ -65,7 +65,7 @@ module _ {Z : Type 0} (want : (ℕ → Tall) → State Tall → Done) (old new :
         meant = λ columns f j. subst (λ g. IsMeaning columns g f) h.graph j;
         held = refl;
         counts = record { misses = same_size (s.misses now) (s.misses now) refl; faults = same_size (s.faults now) (s.faults now) refl };
-        opens = record { more = o.more; allowed = h.opened ∙ o.allowed; grows = o.grows; distinct = λ files told short j. h.distinct j; within = o.within };
+        opens = record { more = o.more; allowed = h.opened ∙ o.allowed; grows = o.grows; distinct = λ files told j. h.distinct j; within = o.within };
       }
 
   ends_last : (n : ℕ) → IsLast n old → IsLast n new
@@ -76,7 +76,7 @@ pub ends_run : {S Z : Type 0} (s : shelf.Ghosts S) (n : ℕ) (want : (ℕ → Ta
 ends_run s n want old new now a last h = record {
   goes = ends_goes want old new a h s now;
   last = on_ok (IsLast n new) a (ends_last want old new a h n last);
-  tells = λ files told short columns f sense. h.tells columns f (subst (λ g. IsMeaning columns g f) h.graph sense.solved);
+  tells = λ files told columns f sense. h.tells columns f (subst (λ g. IsMeaning columns g f) h.graph sense.solved);
   blames = inside_all s now now a h.inside;
 }
 
@@ -111,10 +111,10 @@ module _ {S W V Z : Type 0} (s : shelf.Ghosts S) (n : ℕ) (shown : (ℕ → Tal
   then_runs w a b c x y z r h tells run = record {
     goes = moves_then s a b c x y z h run.goes;
     last = run.last;
-    tells = λ files told short columns f sense.
+    tells = λ files told columns f sense.
         let before : IsSense files b columns f = record { stored = run.goes.stored files columns sense.stored; solved = run.goes.meant columns f sense.solved } in
-        subst (λ v. Answers (then_do v (k files f)) r (state_at f c)) (sym ((tells files told short columns f before).agrees))
-        (run.tells files (h.held ∙ told) short columns f sense);
+        subst (λ v. Answers (then_do v (k files f)) r (state_at f c)) (sym ((tells files told columns f before).agrees))
+        (run.tells files (h.held ∙ told) columns f sense);
     blames = blamed_all a b x y z r h run.blames;
   }
 
@@ -123,8 +123,8 @@ module _ {S W V Z : Type 0} (s : shelf.Ghosts S) (n : ℕ) (shown : (ℕ → Tal
   failed_runs e a b x y h tells blames more = record {
     goes = moved_goes s a b x y h;
     last = tt;
-    tells = λ files told short columns f sense.
-        let t = tells files told short columns f sense in
+    tells = λ files told columns f sense.
+        let t = tells files told columns f sense in
         record {
           agrees = λ stop is. stopped (k files f) (first files f (state_at f a)) stop (state_at f b) (t.agrees stop is);
           unfinished = λ g is none. opens_then (k files f) (first files f (state_at f a)) (state_at f b) (more files f) (t.unfinished g (ap (failed {W = W}) (same_gone e g is)) none);
@@ -137,7 +137,7 @@ pub runs_as : {S Z : Type 0} (s : shelf.Ghosts S) (n : ℕ) (want due : Files �
 runs_as s n want due old new x y r same h = record {
   goes = h.goes;
   last = h.last;
-  tells = λ files told short columns f sense. subst (λ w. Answers w r (state_at f new)) (same files f (state_at f old)) (h.tells files told short columns f sense);
+  tells = λ files told columns f sense. subst (λ w. Answers w r (state_at f new)) (same files f (state_at f old)) (h.tells files told columns f sense);
   blames = h.blames;
 }
 
@@ -205,4 +205,4 @@ into_none line shown names vs s e = ap (λ (b : Bool). if b then then_do (gather
 
 pub told_as : {S Z : Type 0} (s : shelf.Ghosts S) (n : ℕ) (want : Files → (ℕ → Tall) → State Tall → Done) (due : Files → State Tall → Done) (old new : SeenEnvironment) (x y : S) (r : Result (Vec ℕ Z) Failure)
     → ((files : Files) (f : ℕ → Tall) (t : State Tall) → want files f t ≡ due files t) → Runs s n want old new x y r → TellsDone s x due old new r
-told_as s n want due old new x y r same h files told short columns f sense = subst (λ w. Answers w r (state_at f new)) (same files f (state_at f old)) (h.tells files told short columns f sense)
+told_as s n want due old new x y r same h files told columns f sense = subst (λ w. Answers w r (state_at f new)) (same files f (state_at f old)) (h.tells files told columns f sense)

@@ -13,7 +13,7 @@ use Rattle.tall_script.specs.StatesFollow.{done_state}
 use Rattle.tall_environment.specs.declared.failures.Failure.{Failure}
 use Rattle.tall_environment.specs.Environments.{CallsAreAtMost, IsLast, SeenEnvironment, numbered, state_at}
 use Rattle.tall_environment.specs.Expressions.{IsSense, OpensOn}
-use Rattle.tall_environment.specs.Failures.{AreShort, Blames, IsInside, stop_of}
+use Rattle.tall_environment.specs.Failures.{Blames, IsInside, stop_of}
 use Rattle.tall_environment.specs.Moves.{HaveDistinctFiles, Opens}
 
 -- what a statement leaves of an environment and of the shelf: all but the names only grows
@@ -36,10 +36,9 @@ pub record Answers {Z : Type 0} (want : Done) (r : Result (Vec ℕ Z) Failure) (
   pub agrees : Agrees want r t
   pub unfinished : (e : Failure) → r ≡ Err e → stop_of e ≡ None → OpensOn t (done_state want)
 
--- where the shelf tells its files, and none is too long: whatever the values mean, the statement does what it does in the
--- definitions
+-- where the shelf tells its files: whatever the values mean, the statement does what it does in the definitions
 abbrev pub TellsDone : {S Z : Type 0} → shelf.Ghosts S → (before : S) → (Files → State Tall → Done) → (old new : SeenEnvironment) → Result (Vec ℕ Z) Failure → Type 0
-TellsDone s before want old new r = (files : Files) → s.held before ≡ Some files → AreShort files → (columns : Columns) (f : ℕ → Tall)
+TellsDone s before want old new r = (files : Files) → s.held before ≡ Some files → (columns : Columns) (f : ℕ → Tall)
     → IsSense files new columns f → Answers (want files (state_at f old)) r (state_at f new)
 
 -- ---- parts of a statement
@@ -58,6 +57,6 @@ pub record Ends {Z : Type 0} (want : (ℕ → Tall) → State Tall → Done) (ol
 pub record Runs {S Z : Type 0} (s : shelf.Ghosts S) (n : ℕ) (want : Files → (ℕ → Tall) → State Tall → Done) (old new : SeenEnvironment) (before now : S) (r : Result (Vec ℕ Z) Failure) : Type 0 where
   pub goes : Goes s old new before now
   pub last : IfOk r (λ _. IsLast n new)
-  pub tells : (files : Files) → s.held before ≡ Some files → AreShort files → (columns : Columns) (f : ℕ → Tall)
+  pub tells : (files : Files) → s.held before ≡ Some files → (columns : Columns) (f : ℕ → Tall)
       → IsSense files new columns f → Answers (want files f (state_at f old)) r (state_at f new)
   pub blames : IfErr r (λ e. Blames s e before now)

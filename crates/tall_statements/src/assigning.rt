@@ -2,15 +2,15 @@
 ghost use Rattle.std.specs.Prelude.{◌≡◌, ◌++◌, ◌∷◌, [], ℕ, IfNone, IfOk, IfSome, OnErr, OnOk, length, map};
 ghost use Rattle.std.specs.Vec.Iter.{into_iter_items};
 ghost use Rattle.tall_local.specs.Names.{put_name};
-ghost use Rattle.tall_memory.specs.Values.{value_seen};
 ghost use Rattle.tall_script.specs.Statements.{set_names, shown_text, shows};
 ghost use Rattle.tall_semantics.specs.Deferred.{IsMeaning};
 ghost use Rattle.tall_semantics.specs.Talls.{Columns, Tall};
-ghost use Rattle.tall_deferred.specs.Values.{IsValue, value_at};
+ghost use Rattle.tall_deferred.specs.Values.{IsValue, shared_seen, value_at};
 ghost use Rattle.tall_environment.specs.Environments.{state_at};
 
 use crate::texts::show;
 use std::alloc::{AllocError, Global};
+use std::rc::Rc;
 use std::vec::IntoIter;
 use tall_deferred::ScriptValue;
 use tall_environment::Environment;
@@ -36,7 +36,7 @@ pub(crate) fn assign(
 }
 
 /// The next value, where there is one.
-fn next_value(values: &mut IntoIter<MemoryValue>) -> Option<MemoryValue>
+fn next_value(values: &mut IntoIter<Rc<MemoryValue>>) -> Option<Rc<MemoryValue>>
     ensures some { IfSome result (λ v. into_iter_items values.old ≡ v ∷ into_iter_items values.new) }
     ensures none { IfNone result (into_iter_items values.old ≡ []) }
 {
@@ -49,10 +49,10 @@ pub(crate) fn assign_each(
     environment: &mut Environment,
     shown: bool,
     names: &[Name],
-    values: Vec<MemoryValue>,
+    values: Vec<Rc<MemoryValue>>,
 ) -> Result<Vec<u8>, AllocError>
     ensures same { environment.new ≡ record environment.old { names = environment.new.names } }
-    ensures named { (columns : Columns) (f : ℕ → Tall) → IsMeaning columns environment.old.graph f → IfOk result (λ text. set_names shown names.now (map value_seen values.items) [] (state_at f environment.old) ≡ shows text.items (state_at f environment.new)) }
+    ensures named { (columns : Columns) (f : ℕ → Tall) → IsMeaning columns environment.old.graph f → IfOk result (λ text. set_names shown names.now (map shared_seen values.items) [] (state_at f environment.old) ≡ shows text.items (state_at f environment.new)) }
 {
     let mut text = Vec::new(alloc);
     let mut values = values.into_iter();

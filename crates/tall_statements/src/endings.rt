@@ -12,6 +12,7 @@ ghost use Rattle.tall_statements.specs.Endings.{name_alone};
 use crate::assigning::{assign, assign_each};
 use crate::texts::show;
 use std::alloc::Global;
+use std::rc::Rc;
 use tall_deferred::ScriptValue;
 use tall_environment::{Environment, Failure, Refusal};
 use tall_grammar::{Expr, Node};
@@ -42,7 +43,7 @@ pub(crate) fn end_named(
     environment: &mut Environment,
     shown: bool,
     names: &[Name],
-    values: Vec<MemoryValue>,
+    values: Vec<Rc<MemoryValue>>,
 ) -> Result<Vec<u8>, Failure>
     ensures { Ends (λ f s. set_names shown names.now (memories_at f values) [] s) environment.old environment.new result }
 {

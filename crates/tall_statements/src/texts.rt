@@ -80,7 +80,7 @@ fn print(
         ScriptValue::Datastore(_) => print_kind(alloc, name, "datastore", text),
         ScriptValue::Table(_) => print_kind(alloc, name, "tall table", text),
         ScriptValue::Tall(node) => print_kind(alloc, name, tall_kind(graph.class_of(*node)), text),
-        ScriptValue::Memory(value) => print_memory(alloc, name, value, text),
+        ScriptValue::Memory(value) => print_memory(alloc, name, &**value, text),
     }
 }
 

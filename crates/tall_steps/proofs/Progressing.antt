@@ -9,7 +9,8 @@ use Rattle.tall_local.specs.Refusals.{Refusal, Stop, undefined, mixed_class, bad
 use Rattle.tall_outside.specs.Count.{Rose}
 use Rattle.tall_outside.specs.ShelfCounts.{Counts, IsLater, shelf_counts}
 use Rattle.tall_outside.specs.declared.shelf.Shelf as shelf
-use Rattle.tall_outside.specs.Shelf.{Files, file_in}
+use Rattle.tall_outside.specs.Shelf.{Files}
+use Rattle.tall_store.specs.FileEnds.{IsTooLong}
 use Rattle.tall_script.specs.OpeningLaws.{opens_none}
 use Rattle.tall_script.specs.Runs.{Run, behind, next, run, run_from, setting_of}
 use Rattle.tall_script.specs.ScriptLanguage.{Setting}
@@ -205,7 +206,7 @@ ends_run files q p left s before mid opened seen usage same r h = absurd h
 ends_run files q p left s before mid opened seen (no_script name) same r h = absurd h
 ends_run files q p left s before mid opened seen (refused what) same r h = absurd h
 ends_run files q p left s before mid opened seen (changed name rows many) same r h = absurd h
-ends_run files q p left s before mid opened seen (too_large name) same r h = absurd h
+ends_run files q p left s before mid opened seen (too_large name) same r h = tt
 
 -- ---- what was before
 
@@ -266,7 +267,7 @@ explained_later s (changed name rows many) before mid now l g h x =
 explained_later s (too_large name) before mid now l g h x = (
   x.0,
   opened_later (s.opened before) (s.opened mid) (s.opened now) name g x.1,
-  subst (λ o. IfSome o (λ files. IfSome (file_in files name) (λ bytes. 2 ^ 50 < length bytes))) h x.2,
+  subst (λ o. IfSome o (λ files. IsTooLong files name)) h x.2,
 )
 
 pub quiet_next : (left rest : List SeenStatement) (entry : SeenStatement) → left ≡ entry ∷ rest → AreQuiet left → (opens_none entry.form ≡ true) × AreQuiet rest

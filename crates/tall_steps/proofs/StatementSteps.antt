@@ -4,8 +4,9 @@ use Rattle.std.specs.Prelude.{true, Option, None, Some, IfSome, Result, Ok, Err,
 use Rattle.std.proofs.lemmas.List.{length-drop, length-map}
 use Rattle.tall_grammar.specs.Trees.{SeenStatement}
 use Rattle.tall_local.specs.Refusals.{Stop, stop_at}
-use Rattle.tall_outside.specs.Shelf.{Files, file_in, openings_of}
+use Rattle.tall_outside.specs.Shelf.{Files, openings_of}
 use Rattle.tall_outside.specs.declared.shelf.Shelf as shelf
+use Rattle.tall_store.specs.FileEnds.{IsTooLong}
 use Rattle.tall_script.specs.OpeningLaws.{opens_none}
 use Rattle.tall_script.specs.ScriptLanguage.{Setting}
 use Rattle.tall_script.specs.Statements.{Done, statement}
@@ -22,7 +23,7 @@ use Rattle.tall_environment.specs.Failures.{Blames, IsBlamed, refusal_seen, stop
 use Rattle.tall_environment.specs.MoveLaws.{both_allowed}
 use Rattle.tall_environment.specs.Moves.{HaveDistinctFiles}
 use Rattle.tall_statements.specs.Answers.{Answers, Goes, TellsDone}
-use Rattle.tall_steps.specs.Ends.{End, IsExplained, IsMissed, WithinLimit}
+use Rattle.tall_steps.specs.Ends.{End, IsExplained, IsMissed}
 use Rattle.tall_steps.specs.Failing.{end_of}
 use Rattle.tall_steps.specs.Sessions.{HasDistinctFiles, MayMean, SeenSession, Sense, left_in, program_in, setting_in, state_in}
 use Rattle.tall_steps.specs.Steps.{HasEnd, IsOfStatement, OpensBetween, RunsNext, StepOpens, StopsAs}
@@ -61,16 +62,16 @@ module _ {S : Type 0} (s : shelf.Ghosts S) (old new : SeenEnvironment) (before n
   pub sense_before : (files : Files) (columns : Columns) (f : ℕ → Tall) → IsSense files new columns f → IsSense files old columns f
   sense_before files columns f h = record { stored = goes.stored files columns h.stored; solved = goes.meant columns f h.solved }
 
-  pub opens_between : (files : Files) (f : ℕ → Tall) (t : State Tall) → s.held before ≡ Some files → WithinLimit files → HaveDistinctFiles old.stores → OpensOn (state_at f new) t
+  pub opens_between : (files : Files) (f : ℕ → Tall) (t : State Tall) → s.held before ≡ Some files → HaveDistinctFiles old.stores → OpensOn (state_at f new) t
       → OpensBetween (state_at f old) t (s.opened before) (s.opened now)
-  opens_between files f t tells within distinct on = λ names told.
+  opens_between files f t tells distinct on = λ names told.
       let all = goes.opens.grows names told in (
         all.0,
         all.1,
         λ name. (
           all.2 name,
           sums (openings_of name names) (openings_of name all.0) (times_allowed name old.opened) (times_allowed name goes.opens.more) (times_allowed name on.0) (times_allowed name t.opened)
-              (goes.opens.within files tells within distinct names all.0 told all.1 name)
+              (goes.opens.within files tells distinct names all.0 told all.1 name)
               (ap (times_allowed name) (on.1 ∙ ap (λ os. os ++ on.0) goes.opens.allowed) ∙ both_allowed name (old.opened ++ goes.opens.more) on.0 ∙ ap (λ n. n + times_allowed name on.0) (both_allowed name old.opened goes.opens.more)),
         ),
       )
@@ -108,8 +109,7 @@ module _ {S : Type 0} (s : shelf.Ghosts S) (before now : S) where
   missed r.BadKey h = tt
   missed r.BadValue h = tt
 
-  longer : (held : Option Files) (name : List ℕ) → ((files : Files) → held ≡ Some files → IfSome (file_in files name) (λ bytes. 2 ^ 50 < length bytes))
-      → IfSome held (λ files. IfSome (file_in files name) (λ bytes. 2 ^ 50 < length bytes))
+  longer : (held : Option Files) (name : List ℕ) → ((files : Files) → held ≡ Some files → IsTooLong files name) → IfSome held (λ files. IsTooLong files name)
   longer None name h = tt
   longer (Some files) name h = h files refl
 
@@ -128,20 +128,20 @@ module _ {S : Type 0} (s : shelf.Ghosts S) (before now : S) where
   of_statement failure.Memory x is = absurd cc
 
   stops_as : {Z : Type 0} (setting : Setting) (left rest : List SeenStatement) (entry : SeenStatement) (t u : State Tall) (ran : Result (Vec ℕ Z) Failure) (e : Failure) (x : End) (files : Files) → ran ≡ Err e → end_of e ≡ Some x
-      → Blames s e before now → s.held before ≡ Some files → WithinLimit files → left ≡ entry ∷ rest → Answers (statement setting entry t) ran u → StopsAs setting left t x
-  stops_as setting left rest entry t u ran (failure.Refused line refusal) x files fails_so is h tells within next a =
+      → Blames s e before now → s.held before ≡ Some files → left ≡ entry ∷ rest → Answers (statement setting entry t) ran u → StopsAs setting left t x
+  stops_as setting left rest entry t u ran (failure.Refused line refusal) x files fails_so is h tells next a =
       subst (StopsAs setting left t) (some_is _ x is)
       (entry, rest, u, next, (subst (λ o. Answers (statement setting entry t) o u) fails_so a).agrees (stop_at line (refusal_seen refusal)) refl)
-  stops_as setting left rest entry t u ran (failure.Read name) x files fails_so is h tells within next a = subst (StopsAs setting left t) (some_is _ x is) tt
-  stops_as setting left rest entry t u ran (failure.TooLarge name) x files fails_so is h tells within next a = absurd (h.3 files tells within)
-  stops_as setting left rest entry t u ran (failure.Changed name first last) x files fails_so is h tells within next a = absurd (h.2 files tells within)
-  stops_as setting left rest entry t u ran failure.Memory x files fails_so is h tells within next a = absurd cc
+  stops_as setting left rest entry t u ran (failure.Read name) x files fails_so is h tells next a = subst (StopsAs setting left t) (some_is _ x is) tt
+  stops_as setting left rest entry t u ran (failure.TooLarge name) x files fails_so is h tells next a = subst (StopsAs setting left t) (some_is _ x is) tt
+  stops_as setting left rest entry t u ran (failure.Changed name first last) x files fails_so is h tells next a = absurd (h.2 files tells)
+  stops_as setting left rest entry t u ran failure.Memory x files fails_so is h tells next a = absurd cc
 
 -- ---- the step
 
 module _ {S Z : Type 0} (s : shelf.Ghosts S) (before now : S) (old new : SeenSession) (entry : SeenStatement) (rest : List SeenStatement) (ran : Result (Vec ℕ Z) Failure) (next : left_in old ≡ entry ∷ rest)
     (same : program_in new ≡ program_in old) (goes : Goes s old.environment new.environment before now)
-    (distinct : (files : Files) → s.held before ≡ Some files → WithinLimit files → HasDistinctFiles old)
+    (distinct : (files : Files) → s.held before ≡ Some files → HasDistinctFiles old)
     (some : (files : Files) → (columns : Columns) × (f : ℕ → Tall) × IsSense files new.environment columns f)
     (tells : TellsDone s before (λ files t. statement (setting_in files old) entry t) old.environment new.environment ran)
     (still : opens_none entry.form ≡ true → now ≡ before) where
@@ -151,15 +151,15 @@ module _ {S Z : Type 0} (s : shelf.Ghosts S) (before now : S) (old new : SeenSes
   some_sense : (files : Files) → (sense : Sense) × MayMean files new sense
   some_sense files = let h = some files in (record { columns = h.0; values = h.1 }, h.2)
 
-  still_distinct : (files : Files) → s.held before ≡ Some files → WithinLimit files → HasDistinctFiles new
-  still_distinct files told within = goes.opens.distinct files told within (distinct files told within)
+  still_distinct : (files : Files) → s.held before ≡ Some files → HasDistinctFiles new
+  still_distinct files told = goes.opens.distinct files told (distinct files told)
 
-  opens : (files : Files) → s.held before ≡ Some files → WithinLimit files → (sense : Sense) → MayMean files new sense
+  opens : (files : Files) → s.held before ≡ Some files → (sense : Sense) → MayMean files new sense
       → StepOpens (setting_in files old) (left_in old) (state_in sense old) (s.opened before) (s.opened now)
-  opens files told within sense h = λ one more is.
+  opens files told sense h = λ one more is.
       subst (λ x. OpensBetween (state_in sense old) (done_state (statement (setting_in files old) x (state_in sense old))) (s.opened before) (s.opened now)) (first entry one rest more (sym next ∙ is))
-      (opens_between s old.environment new.environment before now goes files sense.values (done_state (statement (setting_in files old) entry (state_in sense old))) told within (distinct files told within)
-      (opens_on (statement (setting_in files old) entry (state_in sense old)) ran (state_in sense new) (tells files told within sense.columns sense.values h)))
+      (opens_between s old.environment new.environment before now goes files sense.values (done_state (statement (setting_in files old) entry (state_in sense old))) told (distinct files told)
+      (opens_on (statement (setting_in files old) entry (state_in sense old)) ran (state_in sense new) (tells files told sense.columns sense.values h)))
     where
       first : (x y : SeenStatement) (xs ys : List SeenStatement) → x ∷ xs ≡ y ∷ ys → x ≡ y
       first x y xs ys e = cc
@@ -177,10 +177,10 @@ module _ {S Z : Type 0} (s : shelf.Ghosts S) (before now : S) (old new : SeenSes
     goes_on = runs;
     less = (entry, next ∙ ap (λ xs. entry ∷ xs) (sym left));
     ends = tt;
-    text = λ files told within sense h. record {
+    text = λ files told sense h. record {
       entry = entry;
       next = next ∙ ap (λ xs. entry ∷ xs) (sym left);
-      shows_text = (subst (λ o. Answers (statement (setting_in files old) entry (state_in sense old)) o (state_in sense new)) is (tells files told within sense.columns sense.values h)).agrees;
+      shows_text = (subst (λ o. Answers (statement (setting_in files old) entry (state_in sense old)) o (state_in sense new)) is (tells files told sense.columns sense.values h)).agrees;
     };
     meant = meant;
     some = some_sense;
@@ -202,11 +202,11 @@ module _ {S Z : Type 0} (s : shelf.Ghosts S) (before now : S) (old new : SeenSes
         (λ x of. (
           of_statement s before now e x of,
           explained s before now e x of blames,
-          λ files told within sense h.
-              stops_as s before now (setting_in files old) (left_in old) rest entry (state_in sense old) (state_in sense new) ran e x files is of blames told within next (tells files told within sense.columns sense.values h),
+          λ files told sense h.
+              stops_as s before now (setting_in files old) (left_in old) rest entry (state_in sense old) (state_in sense new) ran e x files is of blames told next (tells files told sense.columns sense.values h),
         ))
         named;
-    text = λ files told within sense h. tt;
+    text = λ files told sense h. tt;
     meant = meant;
     some = some_sense;
     still_distinct = still_distinct;

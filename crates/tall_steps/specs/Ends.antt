@@ -6,8 +6,9 @@ use Rattle.tall_grammar.specs.Trees.{SeenScript, SeenStatement}
 use Rattle.tall_local.specs.FaultLines.{fault_line, stop_line, usage_text, no_script_text, too_long_text, bad_token_text, too_deep_text, syntax_text, outside_line, cannot_read, file_changed, file_too_large}
 use Rattle.tall_local.specs.Refusals.{Refusal, Stop, no_file}
 use Rattle.tall_outside.specs.Count.{Rose}
-use Rattle.tall_outside.specs.Shelf.{Files, file_in, openings_of}
+use Rattle.tall_outside.specs.Shelf.{Files, openings_of}
 use Rattle.tall_outside.specs.declared.shelf.Shelf as shelf
+use Rattle.tall_store.specs.FileEnds.{IsTooLong}
 use Rattle.tall_script.specs.OpeningLaws.{opens_none}
 use Rattle.tall_steps.specs.declared.statuses.Status.{Status}
 use Rattle.tall_steps.specs.declared.statuses.Status.TheVariants as status
@@ -50,11 +51,7 @@ status_of (unread name) = status.Read
 status_of (changed name rows more) = status.Read
 status_of (too_large name) = status.Read
 
--- ---- premises and fronts
-
--- no file is longer than 2^50 bytes
-abbrev pub WithinLimit : Files → Type 0
-WithinLimit files = (name : List ℕ) → IfSome (file_in files name) (λ bytes. length bytes ≤ 2 ^ 50)
+-- ---- fronts
 
 -- a front of a text was added
 abbrev pub AddsFront : List ℕ → Option (List ℕ) → Option (List ℕ) → Type 0
@@ -101,7 +98,7 @@ IsExplained s (refused what) before now =
 IsExplained s (stopped stop) before now = IsMissed stop.refusal (s.misses before) (s.misses now)
 IsExplained s (unread name) before now = Rose (s.faults before) (s.faults now) × WasOpened (s.opened before) (s.opened now) name
 IsExplained s (changed name rows more) before now =
-    (rows ≢ more) × WasOpened (s.opened before) (s.opened now) name × ((files : Files) → s.held before ≡ Some files → WithinLimit files → ⊥)
+    (rows ≢ more) × WasOpened (s.opened before) (s.opened now) name × ((files : Files) → s.held before ≡ Some files → ⊥)
 IsExplained s (too_large name) before now =
     (2 ^ 50 < s.came now) × WasOpened (s.opened before) (s.opened now) name
-    × IfSome (s.held before) (λ files. IfSome (file_in files name) (λ bytes. 2 ^ 50 < length bytes))
+    × IfSome (s.held before) (λ files. IsTooLong files name)

@@ -9,7 +9,7 @@ use Rattle.tall_outside.specs.declared.sink.WriteFault.TheVariants as write
 use Rattle.tall_script.specs.Runs.{behind, run, run_from, setting_of}
 use Rattle.tall_script.specs.States.{State, times_allowed}
 use Rattle.tall_semantics.specs.Talls.{Tall}
-use Rattle.tall_steps.specs.Ends.{End, IsExplained, stopped, unread, WithinLimit}
+use Rattle.tall_steps.specs.Ends.{End, IsExplained, stopped, unread, too_large}
 use Rattle.tall_steps.specs.Steps.{HasEnd, IsOfStatement}
 use Rattle.tall_steps.specs.declared.statements.RunEnd.{RunEnd}
 use Rattle.tall_steps.specs.declared.statements.RunEnd.TheVariants.{Finished, Stopped, Unwritten}
@@ -35,12 +35,13 @@ pub record Reached (files : Files) (p : SeenScript) (left : List SeenStatement) 
 abbrev pub EndsRun : Files → SeenScript → End → (before after : Option (List ℕ)) → Type 0
 EndsRun files p (stopped stop) before after = ((run files p).ending ≡ Some stop) × Appends before after (run files p).text
 EndsRun files p (unread name) before after = ⊤
+EndsRun files p (too_large name) before after = ⊤
 EndsRun files p e before after = ⊥
 
 abbrev pub IsRunEnd : {S : Type 0} → shelf.Ghosts S → SeenScript → (before now : S) → (written after : Option (List ℕ)) → End → Type 0
 IsRunEnd s p before now written after e =
     IsOfStatement e × IsExplained s e before now
-    × ((files : Files) → s.held before ≡ Some files → WithinLimit files → EndsRun files p e written after)
+    × ((files : Files) → s.held before ≡ Some files → EndsRun files p e written after)
 
 abbrev pub IsWriteFault : WriteFault → (failed : Type 0) → Type 0
 IsWriteFault write.Failed failed = failed
@@ -48,6 +49,6 @@ IsWriteFault write.Memory failed = ⊤
 
 abbrev pub IsRunEnded : {S : Type 0} → shelf.Ghosts S → SeenScript → (before now : S) → (written after : Option (List ℕ)) → (failed : Type 0) → RunEnd → Type 0
 IsRunEnded s p before now written after failed Finished =
-    (files : Files) → s.held before ≡ Some files → WithinLimit files → ((run files p).ending ≡ None) × Appends written after (run files p).text
+    (files : Files) → s.held before ≡ Some files → ((run files p).ending ≡ None) × Appends written after (run files p).text
 IsRunEnded s p before now written after failed (Stopped ending) = HasEnd (IsRunEnd s p before now written after) ending
 IsRunEnded s p before now written after failed (Unwritten fault) = IsWriteFault fault failed

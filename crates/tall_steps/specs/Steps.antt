@@ -10,7 +10,7 @@ use Rattle.tall_script.specs.Statements.{shows, fails, statement}
 use Rattle.tall_script.specs.States.{State, times_allowed}
 use Rattle.tall_script.specs.StatesFollow.{done_state}
 use Rattle.tall_semantics.specs.Talls.{Tall}
-use Rattle.tall_steps.specs.Ends.{End, Grows, IsExplained, all_ran, usage, no_script, refused, stopped, unread, changed, too_large, line_of, status_of, WithinLimit}
+use Rattle.tall_steps.specs.Ends.{End, Grows, IsExplained, all_ran, usage, no_script, refused, stopped, unread, changed, too_large, line_of, status_of}
 use Rattle.tall_steps.specs.Sessions.{HasDistinctFiles, MayMean, SeenSession, Sense, left_in, program_in, setting_in, state_in}
 use Rattle.tall_steps.specs.declared.endings.Ending.{Ending}
 use Rattle.tall_steps.specs.declared.endings.Ending.TheVariants.{Line, Memory}
@@ -40,18 +40,19 @@ IsOfStatement (unread name) = ⊤
 IsOfStatement (changed name rows more) = ⊤
 IsOfStatement (too_large name) = ⊤
 
--- a statement stops as it does in the definitions; a call that failed tells nothing of it
+-- a statement stops as it does in the definitions; a call that failed and a file that is too large tell nothing of it
 abbrev pub StopsAs : Setting → List SeenStatement → State Tall → End → Type 0
 StopsAs setting left s (stopped stop) =
     (entry : SeenStatement) × (rest : List SeenStatement) × (t : State Tall) × (left ≡ entry ∷ rest) × (statement setting entry s ≡ fails stop t)
 StopsAs setting left s (unread name) = ⊤
+StopsAs setting left s (too_large name) = ⊤
 StopsAs setting left s e = ⊥
 
 -- why a step ends the run
 abbrev pub IsStepEnd : {S : Type 0} → shelf.Ghosts S → (old new : SeenSession) → (before now : S) → End → Type 0
 IsStepEnd s old new before now e =
     IsOfStatement e × IsExplained s e before now
-    × ((files : Files) → s.held before ≡ Some files → WithinLimit files → (sense : Sense) → MayMean files new sense
+    × ((files : Files) → s.held before ≡ Some files → (sense : Sense) → MayMean files new sense
     → StopsAs (setting_in files old) (left_in old) (state_in sense old) e)
 
 -- ---- texts
@@ -107,14 +108,14 @@ pub record RunsNext {S Z : Type 0} (s : shelf.Ghosts S) (old new : SeenSession) 
   pub goes_on : IfOk r (λ _. new.has_ended ≡ old.has_ended)
   pub less : LeavesRest (left_in old) (left_in new) r
   pub ends : IfErr r (HasEnd (IsStepEnd s old new before now))
-  pub text : (files : Files) → s.held before ≡ Some files → WithinLimit files → (sense : Sense) → MayMean files new sense
+  pub text : (files : Files) → s.held before ≡ Some files → (sense : Sense) → MayMean files new sense
       → ShowsText (setting_in files old) (left_in old) (left_in new) (state_in sense old) (state_in sense new) r
   pub meant : (files : Files) (sense : Sense) → MayMean files new sense → MayMean files old sense
   pub some : (files : Files) → (sense : Sense) × MayMean files new sense
-  pub still_distinct : (files : Files) → s.held before ≡ Some files → WithinLimit files → HasDistinctFiles new
+  pub still_distinct : (files : Files) → s.held before ≡ Some files → HasDistinctFiles new
   pub held : s.held now ≡ s.held before
   pub grows : Grows (s.opened before) (s.opened now)
   pub later : IsLater (shelf_counts s before) (shelf_counts s now)
-  pub opens : (files : Files) → s.held before ≡ Some files → WithinLimit files → (sense : Sense) → MayMean files new sense
+  pub opens : (files : Files) → s.held before ≡ Some files → (sense : Sense) → MayMean files new sense
       → StepOpens (setting_in files old) (left_in old) (state_in sense old) (s.opened before) (s.opened now)
   pub quiet : (entry : SeenStatement) (rest : List SeenStatement) → left_in old ≡ entry ∷ rest → opens_none entry.form ≡ true → now ≡ before

@@ -5,7 +5,7 @@ ghost use Rattle.tall_outside.specs.Shelf.{Files};
 ghost use Rattle.tall_outside.specs.ShelfCounts.{IsLater, shelf_counts};
 ghost use Rattle.tall_script.specs.Runs.{run};
 ghost use Rattle.tall_script.specs.States.{times_allowed};
-ghost use Rattle.tall_steps.specs.Ends.{AddsFront, AreQuiet, Grows, WithinLimit};
+ghost use Rattle.tall_steps.specs.Ends.{AddsFront, AreQuiet, Grows};
 ghost use Rattle.tall_steps.specs.Progress.{IsRunEnded, OpensAtMost};
 ghost use Rattle.tall_steps.specs.Sessions.{program_in, session_of};
 
@@ -36,8 +36,8 @@ pub fn run_statements<R: Threads + Sync, S: Shelf + Send, O: Sink, G: Gate + Syn
 ) -> RunEnd
     requires { session.old ≡ session_of session.old.script }
     ensures ended { IsRunEnded S.Shelf (program_in session.old) shelf.old shelf.new (O.written out.old) (O.written out.new) (Rose (O.faults out.old) (O.faults out.new)) result }
-    ensures front { (files : Files) → S.held shelf.old ≡ Some files → WithinLimit files → AddsFront (run files (program_in session.old)).text (O.written out.old) (O.written out.new) }
-    ensures opens { (files : Files) → S.held shelf.old ≡ Some files → WithinLimit files → OpensAtMost (λ name. times_allowed name (run files (program_in session.old)).state.opened) (S.opened shelf.old) (S.opened shelf.new) }
+    ensures front { (files : Files) → S.held shelf.old ≡ Some files → AddsFront (run files (program_in session.old)).text (O.written out.old) (O.written out.new) }
+    ensures opens { (files : Files) → S.held shelf.old ≡ Some files → OpensAtMost (λ name. times_allowed name (run files (program_in session.old)).state.opened) (S.opened shelf.old) (S.opened shelf.new) }
     ensures quiet { AreQuiet (program_in session.old).statements → shelf.new ≡ shelf.old }
     ensures held { S.held shelf.new ≡ S.held shelf.old }
     ensures grows { Grows (S.opened shelf.old) (S.opened shelf.new) }

@@ -4,7 +4,7 @@ ghost use Rattle.tall_grammar.specs.Trees.{SeenStatement};
 ghost use Rattle.tall_outside.specs.Shelf.{Files};
 ghost use Rattle.tall_outside.specs.ShelfCounts.{IsLater, shelf_counts};
 ghost use Rattle.tall_script.specs.OpeningLaws.{opens_none};
-ghost use Rattle.tall_steps.specs.Ends.{Grows, WithinLimit};
+ghost use Rattle.tall_steps.specs.Ends.{Grows};
 ghost use Rattle.tall_steps.specs.Sessions.{HasDistinctFiles, MayMean, Sense, left_in, program_in, setting_in, state_in};
 ghost use Rattle.tall_steps.specs.Steps.{HasEnd, IsStepEnd, LeavesLess, RunsNext, StepOpens, TellsText};
 
@@ -25,7 +25,7 @@ fn run_next<R: Threads + Sync, S: Shelf + Send, G: Gate + Sync>(
 ) -> Result<Vec<u8>, Ending>
     requires runs { session.old.has_ended ≡ false }
     requires next { (entry : SeenStatement) × (rest : List SeenStatement) × (left_in session.old ≡ entry ∷ rest) }
-    requires distinct { (files : Files) → S.held shelf.old ≡ Some files → WithinLimit files → HasDistinctFiles session.old }
+    requires distinct { (files : Files) → S.held shelf.old ≡ Some files → HasDistinctFiles session.old }
     ensures { RunsNext S.Shelf session.old session.new shelf.old shelf.new result }
 {
     let next = &session.script.statements.as_slice()[session.place];
@@ -70,7 +70,7 @@ impl Session {
         gate: &G,
         shelf: &mut S,
     ) -> Result<Step, Ending>
-        requires distinct { (files : Files) → S.held shelf.old ≡ Some files → WithinLimit files → HasDistinctFiles self.old }
+        requires distinct { (files : Files) → S.held shelf.old ≡ Some files → HasDistinctFiles self.old }
         ensures program { program_in self.new ≡ program_in self.old }
         ensures ended { self.old.has_ended ≡ true → (result ≡ Ok Step.Ended) × (self.new ≡ self.old) × (shelf.new ≡ shelf.old) }
         ensures only_ended { result ≡ Ok Step.Ended → self.old.has_ended ≡ true }
@@ -80,15 +80,15 @@ impl Session {
         ensures goes_on { IfOk result (λ _. self.new.has_ended ≡ self.old.has_ended) }
         ensures less { LeavesLess (left_in self.old) (left_in self.new) result }
         ensures ends { IfErr result (HasEnd (IsStepEnd S.Shelf self.old self.new shelf.old shelf.new)) }
-        ensures text { (files : Files) → S.held shelf.old ≡ Some files → WithinLimit files → (sense : Sense) → MayMean files self.new sense
+        ensures text { (files : Files) → S.held shelf.old ≡ Some files → (sense : Sense) → MayMean files self.new sense
             → TellsText (setting_in files self.old) (left_in self.old) (left_in self.new) (state_in sense self.old) (state_in sense self.new) result }
         ensures meant { (files : Files) (sense : Sense) → MayMean files self.new sense → MayMean files self.old sense }
         ensures some { (files : Files) → (sense : Sense) × MayMean files self.new sense }
-        ensures still_distinct { (files : Files) → S.held shelf.old ≡ Some files → WithinLimit files → HasDistinctFiles self.new }
+        ensures still_distinct { (files : Files) → S.held shelf.old ≡ Some files → HasDistinctFiles self.new }
         ensures held { S.held shelf.new ≡ S.held shelf.old }
         ensures grows { Grows (S.opened shelf.old) (S.opened shelf.new) }
         ensures later { IsLater (shelf_counts S.Shelf shelf.old) (shelf_counts S.Shelf shelf.new) }
-        ensures opens { self.old.has_ended ≡ false → (files : Files) → S.held shelf.old ≡ Some files → WithinLimit files → (sense : Sense) → MayMean files self.new sense
+        ensures opens { self.old.has_ended ≡ false → (files : Files) → S.held shelf.old ≡ Some files → (sense : Sense) → MayMean files self.new sense
             → StepOpens (setting_in files self.old) (left_in self.old) (state_in sense self.old) (S.opened shelf.old) (S.opened shelf.new) }
         ensures quiet { (entry : SeenStatement) (rest : List SeenStatement) → left_in self.old ≡ entry ∷ rest → opens_none entry.form ≡ true → shelf.new ≡ shelf.old }
     {

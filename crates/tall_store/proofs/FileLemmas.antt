@@ -1,18 +1,19 @@
 -- One file of the walk: its header, and what is left behind it.
 use Rattle.std.proofs.Common.{ℕ, ◌≡◌, ◌<◌, ◌≤◌, ◌∙◌, ◌+◌, ◌^◌, List, [], ◌∷◌, length, drop, true, false, sym, ap, subst, arith}
-use Rattle.std.specs.Prelude.{Option, Some, None, IfSome, ◌&&◌, not, if◌then◌else◌, option_map}
+use Rattle.std.specs.Prelude.{Option, Some, None, IfSome, IsSomeAnd, ◌&&◌, not, if◌then◌else◌, option_map}
 use Rattle.std.proofs.lemmas.List.{drop_more, length-append}
 use Rattle.tall_outside.specs.Shelf.{Files, file_in}
 use Rattle.tall_cut.specs.Asked.{size_in}
-use Rattle.tall_cut.specs.Feed.{counted}
+use Rattle.tall_cut.specs.declared.feed.FeedFault.{FeedFault}
+use Rattle.tall_cut.specs.declared.feed.FeedFault.TheVariants as feed
 use Rattle.tall_cut.specs.Rows.{Fields, NoneLeft, TakesMany}
-use Rattle.tall_value.specs.declared.faults.ReadingKind.TheVariants.{HeaderDiffers}
+use Rattle.tall_value.specs.declared.faults.ReadingKind.TheVariants.{HeaderDiffers, NoFile}
 use Rattle.tall_store.specs.declared.file_end.FileEnd.{FileEnd}
 use Rattle.tall_store.specs.declared.file_end.FileEnd.TheVariants.{Whole, Reading, Failed, TooLarge, Memory}
 use Rattle.tall_store.specs.Headers.{begins_with, is_one_record}
 use Rattle.tall_store.specs.Stores.{SeenStore}
 use Rattle.tall_store.specs.Walk.{WalkedFile, fault_when, walk_from}
-use Rattle.tall_store.specs.FileEnds.{ChecksHeader, FilesFollow, IsCause, IsShort, OpensFile, fault_at}
+use Rattle.tall_store.specs.FileEnds.{ChecksHeader, EndLonger, EndTooLong, FilesFollow, IsCause, NotOpened, OpensFile, fault_at}
 
 -- ---- the walk, file by file
 
@@ -89,6 +90,33 @@ pub too_many_ended : (left : Option (List Fields)) (row : ℕ) → 2 ^ 40 < row 
 too_many_ended None row l = tt
 too_many_ended (Some rows) row l = omega (arith, l)
 
+-- ---- files that are too large
+
+-- a file that was opened is there
+pub too_long_there : (held : Option Files) (size : Option ℕ) (name : List ℕ) (left : Option (List ℕ)) (end : FileEnd) → size_in held name ≡ size
+    → IfSome held (λ files. IsSomeAnd (file_in files name) (λ bytes. left ≡ Some bytes)) → EndLonger end size → EndTooLong held name end
+too_long_there None size name left end e o l = λ t. tt
+too_long_there (Some files) size name left end e o l = λ t. by (file_in files name) o (subst (λ s. IfSome s (λ n. 2 ^ 50 < n)) (sym e) (l t))
+  where
+    by : (bytes : Option (List ℕ)) → IsSomeAnd bytes (λ b. left ≡ Some b) → IfSome (option_map length bytes) (λ n. 2 ^ 50 < n) → IsSomeAnd bytes (λ b. 2 ^ 50 < length b)
+    by None o l = absurd o
+    by (Some b) o l = l
+
+-- one that was not opened is not too large
+pub not_opened_small : (held : Option Files) (name : List ℕ) (file row : ℕ) (fault : FeedFault) (end : FileEnd) → NotOpened file row fault end → EndTooLong held name end
+not_opened_small held name file row feed.NoSuch end n = λ t. absurd (other (sym n ∙ t))
+  where
+    other : Reading (fault_at NoFile file row) ≡ TooLarge → ⊥
+    other e = cc
+not_opened_small held name file row feed.Failed end n = λ t. absurd (other (sym n ∙ t))
+  where
+    other : Failed ≡ TooLarge → ⊥
+    other e = cc
+not_opened_small held name file row feed.Memory end n = λ t. absurd (other (sym n ∙ t))
+  where
+    other : Memory ≡ TooLarge → ⊥
+    other e = cc
+
 -- ---- from what was left to what is left, by the row that comes next
 
 -- as many records as rows were taken
@@ -115,21 +143,9 @@ follows_end (Some all) None first row count f n e = absurd f
 follows_end (Some all) (Some left) first row count f n e =
     let none : length left ≡ 0 = ap length n in omega (arith, none, e, f)
 
--- ---- what was read whole is short
-
-pub short_from_size : (files : Files) (name : List ℕ) → IfSome (size_in (Some files) name) (λ n. counted n ≤ 2 ^ 50) → IsShort files name
-short_from_size files name h = by (file_in files name) h
-  where
-    by : (bytes : Option (List ℕ)) → IfSome (option_map length bytes) (λ n. counted n ≤ 2 ^ 50) → IfSome bytes (λ xs. length xs ≤ 2 ^ 50)
-    by None h = tt
-    by (Some xs) h = omega (arith, h)
-
--- so all of its records were counted
-pub all_counted : (held : Option Files) (size : Option ℕ) (name : List ℕ) (walked : Files → WalkedFile) (left : Option (List Fields)) (n : ℕ)
-    → size_in held name ≡ size → IfSome size (λ bytes. counted bytes ≤ 2 ^ 50)
-    → IfSome held (λ files. IsShort files name → OpensFile (walked files) left) → IfSome left (λ records. n ≡ length records)
+-- so all records of the file were counted
+pub all_counted : (held : Option Files) (walked : Files → WalkedFile) (left : Option (List Fields)) (n : ℕ)
+    → IfSome held (λ files. OpensFile (walked files) left) → IfSome left (λ records. n ≡ length records)
     → IfSome held (λ files. n ≡ length (walked files).records)
-all_counted None size name walked left n e h told all = tt
-all_counted (Some files) size name walked left n e h told all =
-    let short : IsShort files name = short_from_size files name (subst (λ (s : Option ℕ). IfSome s (λ bytes. counted bytes ≤ 2 ^ 50)) (sym e) h) in
-    subst (λ (l : Option (List Fields)). IfSome l (λ records. n ≡ length records)) (told short).1 all
+all_counted None walked left n told all = tt
+all_counted (Some files) walked left n told all = subst (λ (l : Option (List Fields)). IfSome l (λ records. n ≡ length records)) told.1 all

@@ -1,5 +1,5 @@
 -- Names of variables: numbers in names tell them apart, so one of n + 1 suffixes is free where n names are taken.
-use Rattle.std.proofs.Common.{ℕ, zero, suc, ◌≡◌, ◌∙◌, ◌<◌, ◌≤◌, ◌+◌, ◌^◌, List, [], ◌∷◌, ◌++◌, Bool, true, false, sym, ap, subst, refl, arith, length, get_or, map, drop}
+use Rattle.std.proofs.Common.{ℕ, zero, suc, ◌≡◌, ◌∙◌, ◌<◌, ◌≤◌, ◌+◌, ◌^◌, List, [], ◌∷◌, ◌++◌, Bool, true, false, sym, ap, subst, refl, arith, length, map}
 use Rattle.std.specs.Prelude.{◌||◌, if◌then◌else◌, codes}
 use Rattle.std.specs.List.{AllByRecursion, IsDistinct, range_with_len}
 use Rattle.std.specs.Set.{is_member}
@@ -7,8 +7,7 @@ use Rattle.std.specs.Str.{bytes_eq}
 use Rattle.std.specs.Fmt.{decimal}
 use Rattle.std.proofs.lemmas.Bool.{false≢true}
 use Rattle.std.proofs.lemmas.Fmt.{decimal_injective}
-use Rattle.std.proofs.lemmas.List.{append_cancel_left, drop_more, length-append}
-use Rattle.std.proofs.Math.Seq.{drop-length}
+use Rattle.std.proofs.lemmas.List.{append_cancel_left, length-append}
 use Rattle.std.proofs.lemmas.List.Folds.{list_any-append}
 use Rattle.std.proofs.lemmas.List.FromFn.{length-map-range_with_len}
 use Rattle.std.proofs.lemmas.Map.Keys.{IsDistinct-cons}
@@ -116,16 +115,3 @@ least_more is_taken n m k due b l e = ap (λ t. if t then least_free is_taken m 
 pub least_last : (is_taken : ℕ → Bool) (n k due : ℕ) → n ≡ 0 → least_free is_taken n k ≡ due → k ≡ due
 unfolding least_free
 least_last is_taken n k due l e = ap (λ j. least_free is_taken j k) (sym l) ∙ e
-
--- ---- a name among fields
-
-pub name_here : (fields : List (List ℕ)) (name : List ℕ) (k : ℕ) (due : Bool) → k < length fields → bytes_eq name (get_or fields k []) ≡ true
-    → has_name (drop k fields) name ≡ due → true ≡ due
-name_here fields name k due l b e = ap (λ t. t || has_name (drop (k + 1) fields) name) (sym b) ∙ ap (λ fs. has_name fs name) (sym (drop_more fields k [] l)) ∙ e
-
-pub name_later : (fields : List (List ℕ)) (name : List ℕ) (k : ℕ) (due : Bool) → k < length fields → bytes_eq name (get_or fields k []) ≡ false
-    → has_name (drop k fields) name ≡ due → has_name (drop (k + 1) fields) name ≡ due
-name_later fields name k due l b e = ap (λ t. t || has_name (drop (k + 1) fields) name) (sym b) ∙ ap (λ fs. has_name fs name) (sym (drop_more fields k [] l)) ∙ e
-
-pub name_nowhere : (fields : List (List ℕ)) (name : List ℕ) (due : Bool) → has_name (drop (length fields) fields) name ≡ due → false ≡ due
-name_nowhere fields name due e = ap (λ fs. has_name fs name) (sym (drop-length fields)) ∙ e

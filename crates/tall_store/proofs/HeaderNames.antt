@@ -1,16 +1,16 @@
 -- The loops that make the names of all variables.
-use Rattle.std.proofs.Common.{ℕ, zero, suc, ◌≡◌, ◌∙◌, ◌<◌, ◌+◌, ◌^◌, List, [], ◌∷◌, ◌++◌, Bool, true, false, sym, ap, refl, arith, length, get_or, map, drop}
-use Rattle.std.specs.Prelude.{◌&&◌}
+use Rattle.std.proofs.Common.{ℕ, zero, suc, ◌≡◌, ◌∙◌, ◌<◌, ◌+◌, ◌^◌, List, [], ◌∷◌, ◌++◌, Bool, true, false, sym, ap, subst, refl, arith, length, get_or, map, drop}
+use Rattle.std.specs.Prelude.{◌&&◌, if◌then◌else◌}
 use Rattle.std.specs.List.{IsDistinct, list_all, range_with_len}
 use Rattle.std.specs.Str.{bytes_eq, is_utf8}
 use Rattle.std.proofs.lemmas.Bool.{false≢true}
-use Rattle.std.proofs.lemmas.List.{append_assoc, append-nil, drop_more}
+use Rattle.std.proofs.lemmas.List.{append_assoc, append-nil, drop_more, length-append}
 use Rattle.std.proofs.Math.Seq.{drop-length}
 use Rattle.std.proofs.lemmas.Map.Keys.{IsDistinct-push}
-use Rattle.tall_store.specs.Names.{distinct_name, field_name, names_from, numbered_name, numbered_names}
+use Rattle.tall_store.specs.Names.{distinct_name, field_name, header_names, names_from, numbered_name, numbered_names, suffix_of, suffixed}
 use Rattle.tall_value.specs.Names.{has_name}
 use Rattle.tall_store.proofs.Selections.{bytes_laws}
-use Rattle.tall_store.proofs.Freeness.{distinct_range, numbered_apart}
+use Rattle.tall_store.proofs.Freeness.{distinct_range, fresh_suffix, numbered_apart}
 
 -- ---- names of a header
 
@@ -30,6 +30,26 @@ distinct_push names name d f = IsDistinct-push bytes_laws names name d f
 pub no_names : IsDistinct bytes_eq []
 unfolding IsDistinct
 no_names = tt
+
+-- an earlier variable has not the next name
+fresh_name : (fields earlier : List (List ℕ)) (name : List ℕ) → length fields < 2 ^ 20 → length earlier < 2 ^ 20 → has_name earlier (distinct_name fields earlier name) ≡ false
+fresh_name fields earlier name l m = by (has_name earlier name) refl
+  where
+    by : (b : Bool) → b ≡ has_name earlier name → has_name earlier (if b then suffixed name (suffix_of fields earlier name) else name) ≡ false
+    by true e = fresh_suffix fields earlier name l m
+    by false e = sym e
+
+distinct_from : (fields earlier : List (List ℕ)) (position : ℕ) (left : List (List ℕ)) → length fields < 2 ^ 20 → length earlier + length left < 2 ^ 20
+    → IsDistinct bytes_eq earlier → IsDistinct bytes_eq (names_from fields earlier position left)
+distinct_from fields earlier position [] l m d = d
+distinct_from fields earlier position (field ∷ left) l m d =
+    let name : List ℕ = distinct_name fields earlier (field_name position field) in
+    let long : length (earlier ++ name ∷ []) ≡ length earlier + 1 = length-append earlier (name ∷ []) in
+    distinct_from fields (earlier ++ name ∷ []) (position + 1) left l (omega (arith, long, m))
+    (distinct_push earlier name d (fresh_name fields earlier (field_name position field) l (omega (arith, m))))
+
+pub distinct_header : (fields names : List (List ℕ)) → length fields < 2 ^ 20 → names ≡ header_names fields → IsDistinct bytes_eq names
+distinct_header fields names l e = subst (IsDistinct bytes_eq) (sym e) (distinct_from fields [] 1 fields l (omega (arith, l)) no_names)
 
 -- each field of a header is UTF-8
 pub field_utf8 : (fields : List (List ℕ)) (k : ℕ) → k < length fields → list_all is_utf8 fields ≡ true → is_utf8 (get_or fields k []) ≡ true

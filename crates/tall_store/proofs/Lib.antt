@@ -12,6 +12,7 @@ pub mod Placing
 pub mod Selections
 pub mod Freeness
 pub mod HeaderNames
+pub mod TakenNames
 pub mod Openings
 pub mod Asked
 pub mod Told

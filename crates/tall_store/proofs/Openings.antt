@@ -8,6 +8,7 @@ use Rattle.std.proofs.lemmas.Bool.{false≢true}
 use Rattle.std.proofs.lemmas.Bool.Decides.{Decides-eqb}
 use Rattle.std.proofs.lemmas.List.{length-append}
 use Rattle.std.proofs.lemmas.List.FromFn.{length-map-range_with_len, length-range_with_len}
+use Rattle.tall_value.specs.Names.{are_distinct}
 use Rattle.tall_cut.specs.Rows.{Fields}
 use Rattle.tall_store.specs.declared.format.Format.{Format}
 use Rattle.tall_store.specs.Names.{distinct_name, field_name, names_from, numbered_name, variable_names}
@@ -81,6 +82,7 @@ whole_store : (store : SeenStore) → IsStore store → IsDistinct bytes_eq stor
 whole_store store s d = record {
   some_files = s.some_files;
   few_files = s.few_files;
+  distinct_files = s.distinct_files;
   delimiter = s.delimiter;
   size = s.size;
   few_variables = s.few_variables;
@@ -143,6 +145,7 @@ made_store o first fields names formats selected a few short d f p =
     (record {
       some_files = some_files o.files x.files;
       few_files = few;
+      distinct_files = (both_true (is_nonempty o.files) (are_distinct o.files) x.files).1;
       delimiter = x.delimiter;
       size = x.size;
       few_variables = short;

@@ -153,6 +153,7 @@ selected_store store wanted places s c e =
     record {
       some_files = s.some_files;
       few_files = s.few_files;
+      distinct_files = s.distinct_files;
       delimiter = s.delimiter;
       size = s.size;
       few_variables = s.few_variables;
@@ -166,6 +167,7 @@ pub sized_store : (store : SeenStore) (size : ReadSize) → IsStore store → is
 sized_store store size s e = record {
   some_files = s.some_files;
   few_files = s.few_files;
+  distinct_files = s.distinct_files;
   delimiter = s.delimiter;
   size = e;
   few_variables = s.few_variables;
@@ -179,6 +181,7 @@ pub formatted_store : (store : SeenStore) (formats : List Format) → IsStore st
 formatted_store store formats s e = record {
   some_files = s.some_files;
   few_files = s.few_files;
+  distinct_files = s.distinct_files;
   delimiter = s.delimiter;
   size = s.size;
   few_variables = s.few_variables;

@@ -7,7 +7,7 @@ use Rattle.tall_store.specs.declared.faults.StoreFault.{StoreFault}
 use Rattle.tall_store.specs.declared.faults.StoreFault.TheVariants.{BadArgument, NoHeader}
 use Rattle.tall_store.specs.Stores.{SeenStore}
 use Rattle.tall_store.specs.Options.{SeenOptions, is_accepted}
-use Rattle.tall_store.specs.Opening.{IsWithin, Opens, first_fields, first_name, opened_file, opened_first, opened_records, opening}
+use Rattle.tall_store.specs.Opening.{Opens, first_fields, first_name, opened_file, opened_first, opened_records, opening}
 use Rattle.tall_store.specs.Taking.{TakesNext}
 
 one_of : (rows block rest : List Fields) (fields : Fields) → rows ≡ block ++ rest → 0 < length block → length block ≤ 1 → fields ≡ get_or block 0 [] → rows ≡ fields ∷ rest
@@ -64,12 +64,11 @@ told_one (Some records) (Some more) rest o first fields result t u h f due =
 -- ---- the options
 
 pub told_accepted : (held : Option Files) (o : SeenOptions) (result : Result SeenStore StoreFault) → is_accepted o ≡ true
-    → IfSome held (λ files. IsWithin files o → Opens (opened_file o (file_in files (first_name o.files))) result)
-    → IfSome held (λ files. IsWithin files o → Opens (opening files o) result)
+    → IfSome held (λ files. Opens (opened_file o (file_in files (first_name o.files))) result)
+    → IfSome held (λ files. Opens (opening files o) result)
 told_accepted None o result a t = tt
-told_accepted (Some files) o result a t = λ within.
-    subst (λ b. Opens (if b then opened_file o (file_in files (first_name o.files)) else Err BadArgument) result) (sym a) (t within)
+told_accepted (Some files) o result a t = subst (λ b. Opens (if b then opened_file o (file_in files (first_name o.files)) else Err BadArgument) result) (sym a) t
 
-pub told_refused : (held : Option Files) (o : SeenOptions) → is_accepted o ≡ false → IfSome held (λ files. IsWithin files o → opening files o ≡ Err BadArgument)
+pub told_refused : (held : Option Files) (o : SeenOptions) → is_accepted o ≡ false → IfSome held (λ files. opening files o ≡ Err BadArgument)
 told_refused None o a = tt
-told_refused (Some files) o a = λ within. ap (λ b. if b then opened_file o (file_in files (first_name o.files)) else Err BadArgument) a
+told_refused (Some files) o a = ap (λ b. if b then opened_file o (file_in files (first_name o.files)) else Err BadArgument) a

@@ -31,6 +31,16 @@ IsInside (Err TooLarge) = ⊥
 IsInside (Err NoHeader) = Unit {0}
 IsInside (Err Memory) = Unit {0}
 
+-- an answer that comes only where the first file was opened
+abbrev pub HasOpened : Result SeenStore StoreFault → Type 0
+HasOpened (Ok store) = Unit {0}
+HasOpened (Err BadArgument) = ⊥
+HasOpened (Err NoFile) = Unit {0}
+HasOpened (Err Failed) = Unit {0}
+HasOpened (Err TooLarge) = Unit {0}
+HasOpened (Err NoHeader) = Unit {0}
+HasOpened (Err Memory) = ⊥
+
 -- options that are not accepted are refused, unless memory was wanting
 abbrev pub RefusesUnopened : Result SeenStore StoreFault → Type 0
 RefusesUnopened (Ok store) = ⊥

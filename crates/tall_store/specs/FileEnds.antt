@@ -1,5 +1,5 @@
 -- One file of the walk over a datastore's files, and how its reading ends.
-use Rattle.std.specs.Prelude.{◌≡◌, ◌<◌, ◌≤◌, ◌^◌, ◌⊎◌, ◌&&◌, not, ℕ, ◌+◌, if◌then◌else◌, IfSome, List, [], ◌∷◌, drop, get_or, length, Option, None, Some, ⊤}
+use Rattle.std.specs.Prelude.{◌≡◌, ◌<◌, ◌≤◌, ◌^◌, ◌⊎◌, ◌&&◌, not, ℕ, ◌+◌, if◌then◌else◌, IfSome, IsSomeAnd, List, [], ◌∷◌, drop, get_or, length, Option, None, Some, ⊤}
 use Rattle.tall_outside.specs.Count.{Rose}
 use Rattle.tall_outside.specs.Shelf.{Files, file_in}
 use Rattle.tall_outside.specs.ShelfCounts.{Counts}
@@ -32,10 +32,6 @@ abbrev pub FilesFollow : Type 0
 FilesFollow = (store : SeenStore) (files : Files) (file row : ℕ) → file < length store.files
     → walk_from store files file row (drop file store.files)
     ≡ walked_file store files file row ∷ walk_from store files (file + 1) (row + length (walked_file store files file row).records) (drop (file + 1) store.files)
-
--- a file that one opening may read whole
-abbrev pub IsShort : Files → List ℕ → Type 0
-IsShort files name = IfSome (file_in files name) (λ bytes. length bytes ≤ 2 ^ 50)
 
 -- ---- faults of a file itself
 
@@ -116,3 +112,11 @@ EndExplained Memory before after = ⊤
 -- a file is too large only where it is longer than one opening may be, where its size is told
 abbrev pub EndLonger : FileEnd → Option ℕ → Type 0
 EndLonger end size = (end ≡ TooLarge) → IfSome size (λ n. 2 ^ 50 < n)
+
+-- a file is there, and longer than one opening may be
+abbrev pub IsTooLong : Files → List ℕ → Type 0
+IsTooLong files name = IsSomeAnd (file_in files name) (λ bytes. 2 ^ 50 < length bytes)
+
+-- the same of a file of this name, where the shelf tells
+abbrev pub EndTooLong : Option Files → List ℕ → FileEnd → Type 0
+EndTooLong held name end = (end ≡ TooLarge) → IfSome held (λ files. IsTooLong files name)

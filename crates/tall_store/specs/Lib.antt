@@ -1,6 +1,7 @@
 pub mod Formats
 pub mod Fields
 pub mod Names
+pub mod NamesSoFar
 pub mod Options
 pub mod Stores
 pub mod Choices

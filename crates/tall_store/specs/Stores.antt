@@ -2,6 +2,7 @@
 use Rattle.std.specs.Prelude.{◌≡◌, ◌<◌, ◌≤◌, ◌^◌, ℕ, Bool, true, List, [], length, map, get_or}
 use Rattle.std.specs.List.{All, IsDistinct}
 use Rattle.std.specs.Str.{bytes_eq}
+use Rattle.tall_value.specs.Names.{are_distinct}
 use Rattle.tall_cut.specs.declared.cutter.ReadSize.{ReadSize}
 use Rattle.tall_cut.specs.Rows.{Fields}
 use Rattle.tall_store.specs.declared.format.Format.{Format}
@@ -36,6 +37,7 @@ selected_names store = map (name_at store) store.selected
 pub record IsStore (store : SeenStore) : Type 0 where
   pub some_files : 0 < length store.files
   pub few_files : length store.files < 2 ^ 20
+  pub distinct_files : are_distinct store.files ≡ true
   pub delimiter : is_delimiter store.delimiter ≡ true
   pub size : is_size store.size ≡ true
   pub few_variables : length store.names < 2 ^ 20

@@ -6,7 +6,7 @@ ghost use Rattle.tall_cut.specs.Asked.{Asks, Returns};
 ghost use Rattle.tall_cut.specs.Cuts.{block_rows, cutter_left, cutter_shelf, rows_of};
 ghost use Rattle.tall_store.specs.Causes.{opening_counts};
 ghost use Rattle.tall_store.specs.FileEnds as ends;
-ghost use Rattle.tall_store.specs.FileEnds.{ChecksHeader, EndExplained, EndLonger, IsAtFront, IsCause, IsReadWhole, IsShort, OpensFile, RefusesFile, name_of_file, walked_file};
+ghost use Rattle.tall_store.specs.FileEnds.{ChecksHeader, EndExplained, EndLonger, EndTooLong, IsAtFront, IsCause, IsReadWhole, OpensFile, RefusesFile, name_of_file, walked_file};
 
 use crate::faults::{ReadingFault, ReadingKind};
 use crate::file_end::FileEnd;
@@ -156,6 +156,7 @@ impl<'s, S: Shelf, K: OpenedFile> FileRows<'s, S, K> {
     /// - `Reading` with `NoFile` where the file isn't there, with `HeaderDiffers` where files have a header and the first
     ///   record is not that of the first file, both at the row that comes next.
     /// - `Failed` where the shelf failed, `TooLarge` where more than 2^50 bytes came, `Memory` for want of memory.
+    #[tactic(auto, using(crate::proofs::FileLemmas::too_long_there, crate::proofs::FileLemmas::not_opened_small))]
     pub fn open(
         store: &Datastore,
         lent: Lent<'s, S>,
@@ -164,12 +165,12 @@ impl<'s, S: Shelf, K: OpenedFile> FileRows<'s, S, K> {
     ) -> Result<FileRows<'s, S, K>, RefusedFile<'s, S>>
         requires file { file < length store.now.files }
         requires asks { Asks S.Shelf K.OpenedFile lent.shelf.ghost_name lent.shelf.now (name_of_file store.now file) (2 ^ 50) }
-        ensures told { IfOk result (λ r. IfSome K.held (λ files. IsShort files (name_of_file store.now file) → OpensFile (walked_file store.now files file row) (rows_left r))) }
+        ensures told { IfOk result (λ r. IfSome K.held (λ files. OpensFile (walked_file store.now files file row) (rows_left r))) }
         ensures place { IfOk result (λ r. (file_of r ≡ file) × (first_row r ≡ row) × (next_row r ≡ row) × (size_of_block r ≡ rows_of store.now.size)) }
-        ensures refused { IfErr result (λ e. IfSome K.held (λ files. IsShort files (name_of_file store.now file) → RefusesFile (walked_file store.now files file row) e.end)) }
+        ensures refused { IfErr result (λ e. IfSome K.held (λ files. RefusesFile (walked_file store.now files file row) e.end)) }
         ensures front { IfErr result (λ e. IsAtFront file row e.end) }
         ensures explained { IfErr result (λ e. EndExplained e.end (opening_counts K.OpenedFile) (shelf_counts S.Shelf e.lent.shelf.now)) }
-        ensures longer { IfErr result (λ e. EndLonger e.end K.size) }
+        ensures longer { IfErr result (λ e. EndTooLong K.held (name_of_file store.now file) e.end) }
         ensures returns { IfErr result (λ e. (Some e.lent.shelf.ghost_name ≡ K.lender) × (S.held e.lent.shelf.now ≡ K.held)) }
         ensures later { IfErr result (λ e. IsLater (opening_counts K.OpenedFile) (shelf_counts S.Shelf e.lent.shelf.now)) }
         ensures once { IfErr result (λ e. OpensOnce (name_of_file store.now file) (S.opened lent.entry.shelf.now) (S.opened e.lent.shelf.now)) }

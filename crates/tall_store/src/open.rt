@@ -1,8 +1,8 @@
 //! Opening a datastore over a shelf.
-ghost use Rattle.std.specs.Prelude.{◌≡◌, ◌≢◌, ◌<◌, ◌≤◌, ◌^◌, Err, IfErr, IfSome, Some, false, length, option_map, true};
+ghost use Rattle.std.specs.Prelude.{◌≡◌, ◌≢◌, ◌<◌, ◌≤◌, ◌^◌, ◌∷◌, [], Err, IfErr, IfOk, IfSome, Some, false, length, option_map, true};
 ghost use Rattle.std.specs.Result.{result_map_both};
 ghost use Rattle.csv.specs.Records.{fields_of};
-ghost use Rattle.tall_outside.specs.OpenedNames.{OpensOnce};
+ghost use Rattle.tall_outside.specs.OpenedNames.{Adds, OpensOnce};
 ghost use Rattle.tall_outside.specs.Shelf.{file_in};
 ghost use Rattle.tall_outside.specs.ShelfCounts.{IsLater, shelf_counts};
 ghost use Rattle.tall_cut.specs.Asked.{Asks};
@@ -11,7 +11,7 @@ ghost use Rattle.tall_store.specs.Options.{is_accepted, options_seen};
 ghost use Rattle.tall_store.specs.Opening.{IsWithin, Opens, first_name, opened_file, opened_records, opening};
 ghost use Rattle.tall_store.specs.Chosen.{chosen_seen};
 ghost use Rattle.tall_store.specs.Taking.{TakesNext};
-ghost use Rattle.tall_store.specs.Causes.{IsExplained, RefusesUnopened, opening_counts};
+ghost use Rattle.tall_store.specs.Causes.{HasOpened, IsExplained, RefusesUnopened, opening_counts};
 
 use crate::faults::StoreFault;
 use crate::opening::{Chosen, is_accepted, keep, open_first};
@@ -76,6 +76,7 @@ fn open_left<'s, S: Shelf, K: OpenedFile>(
     ensures told { IfSome (cutter_left cutter.old) (λ records. Opens (opened_records (chosen_seen chosen) records) result) }
     ensures explained { IsExplained result (opening_counts K.OpenedFile) (shelf_counts S.Shelf (cutter_shelf cutter.new)) }
     ensures longer { result ≡ Err StoreFault.TooLarge → IfSome K.size (λ size. 2 ^ 50 < size) }
+    ensures files { IfOk result (λ store. store.files ≡ chosen.files.items) }
 {
     let first = match next_record(alloc, cutter) {
         Ok(Some(first)) => first,
@@ -96,7 +97,7 @@ fn open_left<'s, S: Shelf, K: OpenedFile>(
 }
 
 // The datastore of the first file of a lent shelf; the shelf comes back.
-#[tactic(auto, using(crate::proofs::Asked::asked_once))]
+#[tactic(auto, using(crate::proofs::Asked::asked_once, crate::proofs::Asked::asked_adds))]
 fn open_file<'s, S: Shelf, K: OpenedFile>(
     alloc: Global,
     lent: Lent<'s, S>,
@@ -108,11 +109,13 @@ fn open_file<'s, S: Shelf, K: OpenedFile>(
     requires some { 0 < length chosen.files.items }
     requires files { length chosen.files.items < 2 ^ 20 }
     ensures returns { (Some result.shelf.ghost_name ≡ K.lender) × (S.held result.shelf.now ≡ K.held) }
-    ensures told { IfSome K.held (λ files. IsWithin files (chosen_seen chosen) → Opens (opened_file (chosen_seen chosen) (file_in files (first_name chosen.files.items))) opened.new) }
+    ensures told { IfSome K.held (λ files. Opens (opened_file (chosen_seen chosen) (file_in files (first_name chosen.files.items))) opened.new) }
     ensures within { IfSome K.held (λ files. IsWithin files (chosen_seen chosen) → opened.new ≢ Err StoreFault.TooLarge) }
     ensures explained { IsExplained opened.new (opening_counts K.OpenedFile) (shelf_counts S.Shelf result.shelf.now) }
     ensures later { IsLater (opening_counts K.OpenedFile) (shelf_counts S.Shelf result.shelf.now) }
     ensures once { OpensOnce (first_name chosen.files.items) (S.opened lent.entry.shelf.now) (S.opened result.shelf.now) }
+    ensures opened { HasOpened opened.new → Adds (first_name chosen.files.items ∷ []) (S.opened lent.entry.shelf.now) (S.opened result.shelf.now) }
+    ensures files { IfOk opened.new (λ store. store.files ≡ chosen.files.items) }
 {
     match open_feed::<S, K>(lent, chosen.files[0].as_str(), FILE_LIMIT) {
         Ok(feed) => {
@@ -140,12 +143,14 @@ fn open_chosen<S: Shelf>(
 ) -> Result<Datastore, StoreFault>
     requires accepted { is_accepted (chosen_seen chosen) ≡ true }
     requires files { length chosen.files.items < 2 ^ 20 }
-    ensures told { IfSome (S.held shelf.old) (λ files. IsWithin files (chosen_seen chosen) → Opens (opening files (chosen_seen chosen)) result) }
+    ensures told { IfSome (S.held shelf.old) (λ files. Opens (opening files (chosen_seen chosen)) result) }
     ensures within { IfSome (S.held shelf.old) (λ files. IsWithin files (chosen_seen chosen) → result ≢ Err StoreFault.TooLarge) }
     ensures held { S.held shelf.new ≡ S.held shelf.old }
     ensures explained { IsExplained result (shelf_counts S.Shelf shelf.old) (shelf_counts S.Shelf shelf.new) }
     ensures later { IsLater (shelf_counts S.Shelf shelf.old) (shelf_counts S.Shelf shelf.new) }
     ensures once { OpensOnce (first_name chosen.files.items) (S.opened shelf.old) (S.opened shelf.new) }
+    ensures opened { HasOpened result → Adds (first_name chosen.files.items ∷ []) (S.opened shelf.old) (S.opened shelf.new) }
+    ensures files { IfOk result (λ store. store.files ≡ chosen.files.items) }
 {
     let mut opened = Err(StoreFault::Memory);
     let _lent = open_file::<S, Brand>(alloc, Lent { shelf }, chosen, &mut opened);
@@ -171,13 +176,15 @@ impl Datastore {
         options: Options,
     ) -> Result<Datastore, StoreFault>
         requires { length options.files.items < 2 ^ 20 }
-        ensures told { IfSome (S.held shelf.old) (λ files. IsWithin files (options_seen options) → Opens (opening files (options_seen options)) result) }
+        ensures told { IfSome (S.held shelf.old) (λ files. Opens (opening files (options_seen options)) result) }
         ensures within { IfSome (S.held shelf.old) (λ files. IsWithin files (options_seen options) → result ≢ Err StoreFault.TooLarge) }
         ensures held { S.held shelf.new ≡ S.held shelf.old }
         ensures explained { IsExplained result (shelf_counts S.Shelf shelf.old) (shelf_counts S.Shelf shelf.new) }
         ensures later { IsLater (shelf_counts S.Shelf shelf.old) (shelf_counts S.Shelf shelf.new) }
         ensures refused { is_accepted (options_seen options) ≡ false → RefusesUnopened result × (shelf.new ≡ shelf.old) }
         ensures once { OpensOnce (first_name (options_seen options).files) (S.opened shelf.old) (S.opened shelf.new) }
+        ensures opened { HasOpened result → Adds (first_name (options_seen options).files ∷ []) (S.opened shelf.old) (S.opened shelf.new) }
+        ensures files { IfOk result (λ store. store.files ≡ (options_seen options).files) }
     {
         let chosen = match keep(alloc, options) {
             Ok(chosen) => chosen,

@@ -1,5 +1,5 @@
 //! Making a datastore of options and the first records of its first file.
-ghost use Rattle.std.specs.Prelude.{◌≡◌, ◌<◌, ◌^◌, IfOk, Ok, length, map, option_map, string_bytes, true};
+ghost use Rattle.std.specs.Prelude.{◌≡◌, ◌<◌, ◌^◌, IfOk, IfSome, Ok, length, map, option_map, string_bytes, true};
 ghost use Rattle.std.specs.List.{list_all};
 ghost use Rattle.std.specs.Str.{is_utf8};
 ghost use Rattle.csv.specs.Records.{fields_of};
@@ -135,7 +135,8 @@ fn open_variables(
     requires files { length chosen.files.items < 2 ^ 20 }
     requires few { length (fields_of first) < 2 ^ 20 }
     requires utf8 { chosen.header ≡ true → list_all is_utf8 (fields_of first) ≡ true }
-    ensures { IfOk result (λ found. opened_variables (chosen_seen chosen) (fields_of first) (fields_of fields.now) (variable_names chosen.header (fields_of first)) ≡ option_or_refuse found) }
+    ensures due { IfOk result (λ found. opened_variables (chosen_seen chosen) (fields_of first) (fields_of fields.now) (variable_names chosen.header (fields_of first)) ≡ option_or_refuse found) }
+    ensures files { IfOk result (λ found. IfSome found (λ store. store.files ≡ chosen.files.items)) }
 {
     let Chosen {
         files,
@@ -179,6 +180,7 @@ pub(crate) fn open_first(
     requires files { length chosen.files.items < 2 ^ 20 }
     ensures due { Opens (opened_first (chosen_seen chosen) (fields_of first) (fields_of fields.now)) result }
     ensures inside { IsInside result }
+    ensures files { IfOk result (λ store. store.files ≡ chosen.files.items) }
 {
     if chosen.header && !is_header(&first) {
         return Err(StoreFault::NoHeader);

@@ -5,15 +5,15 @@ use Rattle.std.proofs.lemmas.Bool.{leb-true}
 use Rattle.std.proofs.lemmas.List.{append_assoc, append-nil, take_more}
 use Rattle.tall_outside.specs.Count.{Rose}
 use Rattle.tall_outside.specs.OpenedNames.{Adds, OpensOnce}
-use Rattle.tall_outside.specs.Shelf.{Files, file_in}
+use Rattle.tall_outside.specs.Shelf.{Files}
 use Rattle.tall_outside.specs.ShelfCounts.{Counts, IsLater}
-use Rattle.tall_cut.specs.Asked.{and_name, size_in}
+use Rattle.tall_cut.specs.Asked.{and_name}
 use Rattle.tall_cut.specs.Cuts.{rows_of}
 use Rattle.tall_cut.specs.declared.cutter.ReadSize.{ReadSize}
 use Rattle.tall_cut.specs.declared.cutter.ReadSize.TheVariants.{Rows, File}
 use Rattle.tall_store.specs.declared.file_end.FileEnd.{FileEnd}
 use Rattle.tall_store.specs.declared.file_end.FileEnd.TheVariants as end
-use Rattle.tall_store.specs.FileEnds.{EndExplained, EndLonger, IsAtFront, name_of_file}
+use Rattle.tall_store.specs.FileEnds.{EndExplained, EndTooLong, IsAtFront, name_of_file}
 use Rattle.tall_store.specs.Options.{is_size}
 use Rattle.tall_store.specs.Stores.{SeenStore}
 use Rattle.tall_walk.specs.declared.ends.FileOutcome.{FileOutcome}
@@ -21,9 +21,9 @@ use Rattle.tall_walk.specs.declared.ends.FileOutcome.TheVariants as outcome
 use Rattle.tall_walk.specs.declared.ends.WalkEnd.{WalkEnd}
 use Rattle.tall_walk.specs.declared.ends.WalkEnd.TheVariants.{Whole, Reading, Stopped, Read, TooLarge, Memory}
 use Rattle.tall_walk.specs.Events.{Event}
-use Rattle.tall_walk.specs.OneFile.{IfEnd, OfFile, OpensEnd, OpensOne, TellsFile, WholeFile}
-use Rattle.tall_walk.specs.Walked.{EndsAs, EndsNext, IsExplained, IsLonger, OfFiles, OpensNext, Walked, WalkedTo}
-use Rattle.tall_walk.proofs.Following.{its_file, meets_fault, short_in, stops_in_file}
+use Rattle.tall_walk.specs.OneFile.{IfEnd, OpensEnd, OpensOne, TellsFile, WholeFile}
+use Rattle.tall_walk.specs.Walked.{EndsAs, EndsNext, IsExplained, IsLonger, OpensNext, Walked, WalkedTo}
+use Rattle.tall_walk.proofs.Following.{its_file, meets_fault, stops_in_file}
 
 pub some_rows : (size : ReadSize) → is_size size ≡ true → 0 < rows_of size
 some_rows File e = omega arith
@@ -93,14 +93,6 @@ explained_later (Read file) a b c l h = rose_later a.faults b.faults c.faults l.
 explained_later (TooLarge file) a b c l h = h
 explained_later Memory a b c l h = tt
 
-pub longer_file : (E : Type 0) (store : SeenStore) (held : Option Files) (file : ℕ) → EndLonger end.TooLarge (size_in held (name_of_file store file)) → IsLonger {E = E} store held (TooLarge file)
-longer_file E store None file h = tt
-longer_file E store (Some files) file h = by (file_in files (name_of_file store file)) (h refl)
-  where
-    by : (bytes : Option (List ℕ)) → IfSome (option_map length bytes) (λ n. 2 ^ 50 < n) → IfSome bytes (λ bs. 2 ^ 50 < length bs)
-    by None h = tt
-    by (Some bs) h = h
-
 -- ---- the end of a walk
 
 pub ends_walk : {E : Type 0} (P : List Event → Type 0) (Q : E → List Event → Event → Type 0) (store : SeenStore) (held : Option Files) (file : ℕ) (before mid now : Option Names) (e : WalkEnd E) → file < length store.files
@@ -114,7 +106,7 @@ ends_walk P Q store held file before mid now (Reading g) l a o t = record {
 }
 ends_walk P Q store held file before mid now (Stopped e) l a o t = record { opened = file + 1; within = omega (arith, l); opens = adds_next store.files file before mid now l a o; tells = t }
 ends_walk P Q store held file before mid now (Read k) l a o t = record { opened = file + 1; within = omega (arith, l); opens = adds_next store.files file before mid now l a o; tells = subst (λ n. n < file + 1) (sym t) (omega arith) }
-ends_walk P Q store held file before mid now (TooLarge k) l a o t = record { opened = file + 1; within = omega (arith, l); opens = adds_next store.files file before mid now l a o; tells = (subst (λ n. n < file + 1) (sym t.0) (omega arith), t.1) }
+ends_walk P Q store held file before mid now (TooLarge k) l a o t = record { opened = file + 1; within = omega (arith, l); opens = adds_next store.files file before mid now l a o; tells = subst (λ n. n < file + 1) (sym t) (omega arith) }
 ends_walk P Q store held file before mid now Memory l a (inl o) t = record { opened = file; within = omega (arith, l); opens = adds_none (take file store.files) before mid now a o; tells = tt }
 ends_walk P Q store held file before mid now Memory l a (inr o) t = record { opened = file + 1; within = omega (arith, l); opens = adds_next store.files file before mid now l a o; tells = tt }
 
@@ -137,10 +129,6 @@ few_next file row (outcome.Ended end.TooLarge) r e t = subst (λ x. IfOk x (λ n
 few_next file row (outcome.Ended end.Memory) r e t = subst (λ x. IfOk x (λ n. row + n ≤ 2 ^ 40)) (sym e) tt
 few_next file row (outcome.Stopped x) r e t = subst (λ x. IfOk x (λ n. row + n ≤ 2 ^ 40)) (sym e) tt
 
-large_in : (store : SeenStore) (held : Option Files) (file row : ℕ) → file < length store.files → OfFile store held file row (λ f. ⊥) → OfFiles store held (λ files. ⊥)
-large_in store None file row l t = tt
-large_in store (Some files) file row l t = λ short. t (short_in files store.files file short l)
-
 pub ends_next : {E : Type 0} (P Q : List Event → Type 0) (R : E → List Event → Event → Type 0) (store : SeenStore) (held : Option Files) (file row : ℕ) (o : FileOutcome E) (r : Result ℕ (WalkEnd E)) → EndsAs file o r → file < length store.files
     → ((es : List Event) → P es → TellsFile Q R store held file row es o) → IfErr r (λ x. WalkedTo P store held file row → EndsNext Q R store held file x)
 ends_next P Q R store held file row (outcome.Ended (end.Whole n)) r e l t = subst (λ x. IfErr x (λ y. WalkedTo P store held file row → EndsNext Q R store held file y)) (sym e) tt
@@ -149,7 +137,7 @@ ends_next P Q R store held file row (outcome.Ended (end.Reading g)) r e l t =
     (λ w. (meets_fault P Q store held file row g l w t, its_file file row g (t w.events w.taken).own))
 ends_next P Q R store held file row (outcome.Ended end.Failed) r e l t = subst (λ x. IfErr x (λ y. WalkedTo P store held file row → EndsNext Q R store held file y)) (sym e) (λ w. refl)
 ends_next P Q R store held file row (outcome.Ended end.TooLarge) r e l t =
-    subst (λ x. IfErr x (λ y. WalkedTo P store held file row → EndsNext Q R store held file y)) (sym e) (λ w. (refl, large_in store held file row l (t w.events w.taken)))
+    subst (λ x. IfErr x (λ y. WalkedTo P store held file row → EndsNext Q R store held file y)) (sym e) (λ w. refl)
 ends_next P Q R store held file row (outcome.Ended end.Memory) r e l t = subst (λ x. IfErr x (λ y. WalkedTo P store held file row → EndsNext Q R store held file y)) (sym e) (λ w. tt)
 ends_next P Q R store held file row (outcome.Stopped s) r e l t =
     subst (λ x. IfErr x (λ y. WalkedTo P store held file row → EndsNext Q R store held file y)) (sym e) (λ w. stops_in_file P (R s) store held file row l w t)
@@ -162,12 +150,12 @@ explained_next file a b (outcome.Ended end.TooLarge) r e t = subst (λ x. IfErr 
 explained_next file a b (outcome.Ended end.Memory) r e t = subst (λ x. IfErr x (λ y. IsExplained y a b)) (sym e) tt
 explained_next file a b (outcome.Stopped s) r e t = subst (λ x. IfErr x (λ y. IsExplained y a b)) (sym e) tt
 
-pub longer_next : {E : Type 0} (store : SeenStore) (held : Option Files) (file : ℕ) (o : FileOutcome E) (r : Result ℕ (WalkEnd E)) → EndsAs file o r → IfEnd o (λ x. EndLonger x (size_in held (name_of_file store file)))
+pub longer_next : {E : Type 0} (store : SeenStore) (held : Option Files) (file : ℕ) (o : FileOutcome E) (r : Result ℕ (WalkEnd E)) → EndsAs file o r → IfEnd o (EndTooLong held (name_of_file store file))
     → IfErr r (λ x. IsLonger store held x)
 longer_next store held file (outcome.Ended (end.Whole n)) r e t = subst (λ x. IfErr x (λ y. IsLonger store held y)) (sym e) tt
 longer_next store held file (outcome.Ended (end.Reading g)) r e t = subst (λ x. IfErr x (λ y. IsLonger store held y)) (sym e) tt
 longer_next store held file (outcome.Ended end.Failed) r e t = subst (λ x. IfErr x (λ y. IsLonger store held y)) (sym e) tt
-longer_next {E = E} store held file (outcome.Ended end.TooLarge) r e t = subst (λ x. IfErr x (λ y. IsLonger store held y)) (sym e) (longer_file E store held file t)
+longer_next store held file (outcome.Ended end.TooLarge) r e t = subst (λ x. IfErr x (λ y. IsLonger store held y)) (sym e) (t refl)
 longer_next store held file (outcome.Ended end.Memory) r e t = subst (λ x. IfErr x (λ y. IsLonger store held y)) (sym e) tt
 longer_next store held file (outcome.Stopped s) r e t = subst (λ x. IfErr x (λ y. IsLonger store held y)) (sym e) tt
 

@@ -1,6 +1,6 @@
 -- From file to file.
 use Rattle.std.proofs.Common.{ℕ, zero, suc, ◌≡◌, ◌∙◌, ◌<◌, ◌≤◌, ◌+◌, ◌^◌, inl, inr, List, [], ◌∷◌, ◌++◌, sym, ap, subst, refl, arith, length, map, take, drop, get_or, ltb, Bool, true, false}
-use Rattle.std.specs.Prelude.{◌⊎◌, Option, Some, None, Result, Ok, Err}
+use Rattle.std.specs.Prelude.{◌⊎◌, IfSome, Option, Some, None, Result, Ok, Err}
 use Rattle.std.specs.Bool.{Decides}
 use Rattle.std.specs.List.{flat_map}
 use Rattle.std.specs.Option.{option_or}
@@ -17,7 +17,7 @@ use Rattle.tall_cut.specs.declared.cutter.ReadSize.TheVariants.{Rows, File}
 use Rattle.tall_cut.specs.Cuts.{rows_of}
 use Rattle.tall_store.specs.declared.faults.ReadingFault.{ReadingFault}
 use Rattle.tall_store.specs.Blocks.{Block, HasRows, all_blocks, block_table, block_tables, block_variables, blocks_up_to, first_block_fault, first_in_blocks, first_met_from, first_on_walk, first_refused, in_blocks, numbered_blocks, walked_blocks, walked_tables}
-use Rattle.tall_store.specs.FileEnds.{IsShort, walked_file}
+use Rattle.tall_store.specs.FileEnds.{walked_file}
 use Rattle.tall_store.specs.ReadingOrder.{first_reading_fault}
 use Rattle.tall_store.specs.Stored.{file_faults_from, first_fault, unless_fault}
 use Rattle.tall_store.specs.Stores.{SeenStore}
@@ -27,19 +27,9 @@ use Rattle.tall_store.proofs.Joins.{faults_join, sizes_cut}
 use Rattle.tall_store.proofs.Walks.{tables_join}
 use Rattle.tall_walk.specs.Events.{AreTables, Event, IsWalk, Tables, a_block, all_events, an_end, blocks_in, cut_of, events_from, file_events, first_in, up_to_fault}
 use Rattle.tall_walk.specs.OneFile.{FaultOfFile, IsOfFile, MeetsBlock, MeetsNext, OfFile, StopsInFile, WholeFile, blocks_of, first_of}
-use Rattle.tall_walk.specs.Walked.{AreShort, GoesFrom, MeetsFault, OfFiles, StopsAt, WalkedTo, WalksAll}
+use Rattle.tall_walk.specs.Walked.{GoesFrom, MeetsFault, StopsAt, WalkedTo, WalksAll}
 use Rattle.tall_walk.proofs.Cuts.{same_cut}
 use Rattle.tall_walk.proofs.Walks.{block_below, blocks_append, blocks_map, first_in_append, none_append, or_assoc, or_none, or_some, walk_grows, walk_more}
-
--- ---- short files
-
-pub short_in : (files : Files) (names : List (List ℕ)) (file : ℕ) → AreShort files names → file < length names → IsShort files (get_or names file [])
-short_in files [] file s l = absurd (omega (arith, l))
-short_in files (name ∷ names) zero s l = s.0
-short_in files (name ∷ names) (suc n) s l = short_in files names n s.1 (less n (length names) l)
-  where
-    less : (m n : ℕ) → suc m < suc n → m < n
-    less m n l = omega arith
 
 -- ---- one file's events
 
@@ -155,9 +145,9 @@ starts P store held some p = record {
   goes = goes held;
 }
   where
-    goes : (held : Option Files) → OfFiles store held (λ files. GoesFrom store files 0 1 [])
+    goes : (held : Option Files) → IfSome held (λ files. GoesFrom store files 0 1 [])
     goes None = tt
-    goes (Some files) = λ short. record {
+    goes (Some files) = record {
       events = refl;
       blocks = refl;
       own = refl;
@@ -170,14 +160,11 @@ ended_walk : (first row n : ℕ) (file : ℕ) → first + n ≡ row → IsWalk f
 ended_walk first row n file e = (refl, e, (refl, refl, refl))
 
 to_file : (store : SeenStore) (held : Option Files) (file row n : ℕ) (events : List Event) (blocks : List Block) → file < length store.files → row + n ≤ 2 ^ 40
-    → OfFiles store held (λ files. GoesFrom store files file row events)
+    → IfSome held (λ files. GoesFrom store files file row events)
     → OfFile store held file row (λ f. (f.faults ≡ []) × (n ≡ length f.records) × (blocks_of store f ≡ blocks))
-    → OfFiles store held (λ files. GoesFrom store files (file + 1) (row + n) ((events ++ map a_block blocks) ++ an_end file n ∷ []))
+    → IfSome held (λ files. GoesFrom store files (file + 1) (row + n) ((events ++ map a_block blocks) ++ an_end file n ∷ []))
 to_file store None file row n events blocks l few w t = tt
-to_file store (Some files) file row n events blocks l few w t = λ short.
-    let told : ((walked_file store files file row).faults ≡ []) × (n ≡ length (walked_file store files file row).records) × (blocks_of store (walked_file store files file row) ≡ blocks) =
-    t (short_in files store.files file short l) in
-    goes_next l (w short) few told.0 told.1 told.2
+to_file store (Some files) file row n events blocks l few w t = goes_next l w few t.0 t.1 t.2
 
 -- a file was read whole, and its end was taken
 pub walks_file : (P Q R : List Event → Type 0) (store : SeenStore) (held : Option Files) (file row n then : ℕ) → file < length store.files → (w : WalkedTo P store held file row)
@@ -368,15 +355,14 @@ events_cut store files file row events blocks more l w e =
     )
 
 fault_met : (store : SeenStore) (held : Option Files) (file row : ℕ) (events : List Event) (blocks : List Block) (g : ReadingFault) → file < length store.files
-    → OfFiles store held (λ files. GoesFrom store files file row events)
+    → IfSome held (λ files. GoesFrom store files file row events)
     → OfFile store held file row (λ f. (more : List Block) × (blocks_of store f ≡ blocks ++ more) × (first_of store f ≡ option_or (first_in_blocks store blocks) (Some g)))
-    → OfFiles store held (λ files. (more : List Event) × (all_events store files ≡ (events ++ map a_block blocks) ++ more) × (first_fault store files ≡ option_or (first_in store (events ++ map a_block blocks)) (Some g)))
+    → IfSome held (λ files. (more : List Event) × (all_events store files ≡ (events ++ map a_block blocks) ++ more) × (first_fault store files ≡ option_or (first_in store (events ++ map a_block blocks)) (Some g)))
 fault_met store None file row events blocks g l w t = tt
-fault_met store (Some files) file row events blocks g l w t = λ short.
+fault_met store (Some files) file row events blocks g l w told =
     let f : WalkedFile = walked_file store files file row in
-    let told : (more : List Block) × (blocks_of store f ≡ blocks ++ more) × (first_of store f ≡ option_or (first_in_blocks store blocks) (Some g)) = t (short_in files store.files file short l) in
-    let from : (rest : Option ReadingFault) × (first_fault store files ≡ option_or (first_in store events) (option_or (first_of store f) rest)) = first_from store files file row events l (w short) in
-    let cut : (rest : List Event) × (all_events store files ≡ (events ++ map a_block blocks) ++ (map a_block told.0 ++ rest)) = events_cut store files file row events blocks told.0 l (w short) told.1 in (
+    let from : (rest : Option ReadingFault) × (first_fault store files ≡ option_or (first_in store events) (option_or (first_of store f) rest)) = first_from store files file row events l w in
+    let cut : (rest : List Event) × (all_events store files ≡ (events ++ map a_block blocks) ++ (map a_block told.0 ++ rest)) = events_cut store files file row events blocks told.0 l w told.1 in (
       map a_block told.0 ++ cut.0,
       cut.1,
       from.1
@@ -438,17 +424,16 @@ fault_tables store files file row events blocks g l s w (inr next) more at first
     by (inr long) = by_front blocks refl (subst (λ bs. IsLongFile store bs (sized_blocks l w)) at long)
 
 fault_tables_met : (store : SeenStore) (held : Option Files) (file row : ℕ) (events : List Event) (blocks : List Block) (g : ReadingFault) → file < length store.files → 1 ≤ row
-    → OfFiles store held (λ files. GoesFrom store files file row events)
+    → IfSome held (λ files. GoesFrom store files file row events)
     → OfFile store held file row (MeetsNext store row blocks g)
     → OfFile store held file row (λ f. (more : List Block) × (blocks_of store f ≡ blocks ++ more) × (first_of store f ≡ option_or (first_in_blocks store blocks) (Some g)))
-    → OfFiles store held (λ files. (more : List Event) × (all_events store files ≡ (events ++ map a_block blocks) ++ more) × (first_fault store files ≡ option_or (first_in store (events ++ map a_block blocks)) (Some g)))
-    → OfFiles store held (λ files. AreTables store files (map (block_table store) (blocks_in (events ++ map a_block blocks)) ++ Err g ∷ []))
+    → IfSome held (λ files. (more : List Event) × (all_events store files ≡ (events ++ map a_block blocks) ++ more) × (first_fault store files ≡ option_or (first_in store (events ++ map a_block blocks)) (Some g)))
+    → IfSome held (λ files. AreTables store files (map (block_table store) (blocks_in (events ++ map a_block blocks)) ++ Err g ∷ []))
 fault_tables_met store None file row events blocks g l s w next told met = tt
-fault_tables_met store (Some files) file row events blocks g l s w next told met = λ short.
-    let one : IsShort files (get_or store.files file []) = short_in files store.files file short l in
+fault_tables_met store (Some files) file row events blocks g l s w next told met =
     subst (λ bs. AreTables store files (map (block_table store) bs ++ Err g ∷ [])) (sym (blocks_taken events blocks))
-    (fault_tables store files file row events blocks g l s (w short) (next one) (told one).0 (told one).1
-    ((met short).2 ∙ ap (λ bs. option_or (first_in_blocks store bs) (Some g)) (blocks_taken events blocks)))
+    (fault_tables store files file row events blocks g l s w next told.0 told.1
+    (met.2 ∙ ap (λ bs. option_or (first_in_blocks store bs) (Some g)) (blocks_taken events blocks)))
 
 pub its_file : (file row : ℕ) (g : ReadingFault) → IsOfFile file row g → g.file ≡ file
 its_file file row g (inl e) = ap (λ f. f.file) e
@@ -487,16 +472,15 @@ first_stopped store before blocks b =
     ∙ ap (λ x. option_or x (option_or (first_block_fault store b) None)) (first_taken store before blocks)
 
 stop_met : (store : SeenStore) (held : Option Files) (file row : ℕ) (events : List Event) (blocks : List Block) (b : Block) → file < length store.files
-    → OfFiles store held (λ files. GoesFrom store files file row events)
+    → IfSome held (λ files. GoesFrom store files file row events)
     → OfFile store held file row (λ f. (f.faults ≡ []) × (more : List Block) × (blocks_of store f ≡ blocks ++ b ∷ more))
-    → OfFiles store held (λ files. (more : List Event) × (all_events store files ≡ (events ++ map a_block blocks) ++ a_block b ∷ more)
+    → IfSome held (λ files. (more : List Event) × (all_events store files ≡ (events ++ map a_block blocks) ++ a_block b ∷ more)
     × ((g : ReadingFault) → first_in store ((events ++ map a_block blocks) ++ a_block b ∷ []) ≡ Some g → first_fault store files ≡ Some g))
 stop_met store None file row events blocks b l w t = tt
-stop_met store (Some files) file row events blocks b l w t = λ short.
+stop_met store (Some files) file row events blocks b l w told =
     let f : WalkedFile = walked_file store files file row in
-    let told : (f.faults ≡ []) × (more : List Block) × (blocks_of store f ≡ blocks ++ b ∷ more) = t (short_in files store.files file short l) in
-    let from : (rest : Option ReadingFault) × (first_fault store files ≡ option_or (first_in store events) (option_or (first_of store f) rest)) = first_from store files file row events l (w short) in
-    let cut : (rest : List Event) × (all_events store files ≡ (events ++ map a_block blocks) ++ (a_block b ∷ (map a_block told.1 ++ rest))) = events_cut store files file row events blocks (b ∷ told.1) l (w short) told.2 in (
+    let from : (rest : Option ReadingFault) × (first_fault store files ≡ option_or (first_in store events) (option_or (first_of store f) rest)) = first_from store files file row events l w in
+    let cut : (rest : List Event) × (all_events store files ≡ (events ++ map a_block blocks) ++ (a_block b ∷ (map a_block told.1 ++ rest))) = events_cut store files file row events blocks (b ∷ told.1) l w told.2 in (
       map a_block told.1 ++ cut.0,
       cut.1,
       λ g e.
@@ -554,17 +538,16 @@ block_taken : (events : List Event) (blocks : List Block) (b : Block) → blocks
 block_taken events blocks b = blocks_append (events ++ map a_block blocks) (a_block b ∷ []) ∙ ap (λ bs. bs ++ b ∷ []) (blocks_taken events blocks) ∙ append_assoc (blocks_in events) blocks (b ∷ [])
 
 stop_tables_met : (store : SeenStore) (held : Option Files) (file row : ℕ) (events : List Event) (blocks : List Block) (b : Block) → file < length store.files → 1 ≤ row → row ≤ 2 ^ 40
-    → OfFiles store held (λ files. GoesFrom store files file row events)
+    → IfSome held (λ files. GoesFrom store files file row events)
     → OfFile store held file row (λ f. (f.faults ≡ []) × (more : List Block) × (blocks_of store f ≡ blocks ++ b ∷ more))
-    → OfFiles store held (λ files. (more : List Event) × (all_events store files ≡ (events ++ map a_block blocks) ++ a_block b ∷ more)
+    → IfSome held (λ files. (more : List Event) × (all_events store files ≡ (events ++ map a_block blocks) ++ a_block b ∷ more)
     × ((g : ReadingFault) → first_in store ((events ++ map a_block blocks) ++ a_block b ∷ []) ≡ Some g → first_fault store files ≡ Some g))
-    → OfFiles store held (λ files. (rest : Tables) × AreTables store files (map (block_table store) (blocks_in ((events ++ map a_block blocks) ++ a_block b ∷ [])) ++ rest))
+    → IfSome held (λ files. (rest : Tables) × AreTables store files (map (block_table store) (blocks_in ((events ++ map a_block blocks) ++ a_block b ∷ [])) ++ rest))
 stop_tables_met store None file row events blocks b l s few w told met = tt
-stop_tables_met store (Some files) file row events blocks b l s few w told met = λ short.
-    let one : IsShort files (get_or store.files file []) = short_in files store.files file short l in
+stop_tables_met store (Some files) file row events blocks b l s few w told met =
     subst (λ bs. (rest : Tables) × AreTables store files (map (block_table store) bs ++ rest)) (sym (block_taken events blocks b))
-    (stop_tables store files file row events blocks b l s few (w short) (told one).0 (told one).1 (told one).2
-    (λ g e. (met short).2 g (ap (first_in_blocks store) (block_taken events blocks b) ∙ e)))
+    (stop_tables store files file row events blocks b l s few w told.0 told.1 told.2
+    (λ g e. met.2 g (ap (first_in_blocks store) (block_taken events blocks b) ∙ e)))
 
 pub stops_in_file : (P : List Event → Type 0) (Q : List Event → Event → Type 0) (store : SeenStore) (held : Option Files) (file row : ℕ) → file < length store.files → (w : WalkedTo P store held file row)
     → ((es : List Event) → P es → StopsInFile Q store held file row es) → StopsAt Q store held (file + 1)
@@ -588,21 +571,21 @@ stops_in_file P Q store held file row l w stop =
     below : (r m k : ℕ) → k ≤ r → r < m → k ≤ m
     below r m k a b = omega arith
 
-end_met : (store : SeenStore) (held : Option Files) (file row n : ℕ) (events : List Event) (blocks : List Block) → OfFiles store held (λ files. GoesFrom store files (file + 1) (row + n) ((events ++ map a_block blocks) ++ an_end file n ∷ []))
-    → OfFiles store held (λ files. (more : List Event) × (all_events store files ≡ (events ++ map a_block blocks) ++ an_end file n ∷ more)
+end_met : (store : SeenStore) (held : Option Files) (file row n : ℕ) (events : List Event) (blocks : List Block) → IfSome held (λ files. GoesFrom store files (file + 1) (row + n) ((events ++ map a_block blocks) ++ an_end file n ∷ []))
+    → IfSome held (λ files. (more : List Event) × (all_events store files ≡ (events ++ map a_block blocks) ++ an_end file n ∷ more)
     × ((g : ReadingFault) → first_in store ((events ++ map a_block blocks) ++ an_end file n ∷ []) ≡ Some g → first_fault store files ≡ Some g))
 end_met store None file row n events blocks w = tt
-end_met store (Some files) file row n events blocks w = λ short.
+end_met store (Some files) file row n events blocks w =
     let next : List Event = events_from store files (file + 1) (row + n) (drop (file + 1) store.files) in
     let ended : List Event = (events ++ map a_block blocks) ++ an_end file n ∷ [] in
     let met : Option ReadingFault = first_met_from (cut_of store) store files (file + 1) (row + n) (drop (file + 1) store.files) in
-    (next, (w short).events ∙ append_assoc (events ++ map a_block blocks) (an_end file n ∷ []) next, λ g e. (w short).first ∙ or_some (first_in store ended) met g e)
+    (next, w.events ∙ append_assoc (events ++ map a_block blocks) (an_end file n ∷ []) next, λ g e. w.first ∙ or_some (first_in store ended) met g e)
 
-end_tables : (store : SeenStore) (held : Option Files) (file row n : ℕ) (events : List Event) (blocks : List Block) → OfFiles store held (λ files. GoesFrom store files (file + 1) (row + n) ((events ++ map a_block blocks) ++ an_end file n ∷ []))
-    → OfFiles store held (λ files. (rest : Tables) × AreTables store files (map (block_table store) (blocks_in ((events ++ map a_block blocks) ++ an_end file n ∷ [])) ++ rest))
+end_tables : (store : SeenStore) (held : Option Files) (file row n : ℕ) (events : List Event) (blocks : List Block) → IfSome held (λ files. GoesFrom store files (file + 1) (row + n) ((events ++ map a_block blocks) ++ an_end file n ∷ []))
+    → IfSome held (λ files. (rest : Tables) × AreTables store files (map (block_table store) (blocks_in ((events ++ map a_block blocks) ++ an_end file n ∷ [])) ++ rest))
 end_tables store None file row n events blocks w = tt
-end_tables store (Some files) file row n events blocks w = λ short.
-    (flat_map (walked_tables store) (walk_from store files (file + 1) (row + n) (drop (file + 1) store.files)), ap up_to_fault (w short).tables)
+end_tables store (Some files) file row n events blocks w =
+    (flat_map (walked_tables store) (walk_from store files (file + 1) (row + n) (drop (file + 1) store.files)), ap up_to_fault w.tables)
 
 -- the taker stopped at the end of a file
 pub stops_at_end : (P Q : List Event → Type 0) (R : List Event → Event → Type 0) (store : SeenStore) (held : Option Files) (file row n : ℕ) → file < length store.files → (w : WalkedTo P store held file row)
@@ -624,23 +607,23 @@ stops_at_end P Q R store held file row n l w whole stopped =
     }
 
 -- all files
-all_met : (store : SeenStore) (held : Option Files) (row : ℕ) (events : List Event) → OfFiles store held (λ files. GoesFrom store files (length store.files) row events)
-    → OfFiles store held (λ files. (events ≡ all_events store files) × (blocks_in events ≡ all_blocks store files) × (file_faults_from store files 0 1 store.files ≡ []) × (first_fault store files ≡ first_in store events))
+all_met : (store : SeenStore) (held : Option Files) (row : ℕ) (events : List Event) → IfSome held (λ files. GoesFrom store files (length store.files) row events)
+    → IfSome held (λ files. (events ≡ all_events store files) × (blocks_in events ≡ all_blocks store files) × (file_faults_from store files 0 1 store.files ≡ []) × (first_fault store files ≡ first_in store events))
 all_met store None row events w = tt
-all_met store (Some files) row events w = λ short.
+all_met store (Some files) row events w =
     let none : drop (length store.files) store.files ≡ [] = drop-length store.files in
     let at : ℕ = length store.files in (
-      sym ((w short).events ∙ ap (λ names. events ++ events_from store files at row names) none ∙ append-nil events),
-      sym ((w short).blocks ∙ ap (λ names. blocks_in events ++ flat_map (walked_blocks (in_blocks store.size)) (walk_from store files at row names)) none ∙ append-nil (blocks_in events)),
-      (w short).own ∙ ap (file_faults_from store files at row) none,
-      (w short).first ∙ ap (λ names. option_or (first_in store events) (first_met_from (cut_of store) store files at row names)) none ∙ or_none (first_in store events),
+      sym (w.events ∙ ap (λ names. events ++ events_from store files at row names) none ∙ append-nil events),
+      sym (w.blocks ∙ ap (λ names. blocks_in events ++ flat_map (walked_blocks (in_blocks store.size)) (walk_from store files at row names)) none ∙ append-nil (blocks_in events)),
+      w.own ∙ ap (file_faults_from store files at row) none,
+      w.first ∙ ap (λ names. option_or (first_in store events) (first_met_from (cut_of store) store files at row names)) none ∙ or_none (first_in store events),
     )
 
-all_tables : (store : SeenStore) (held : Option Files) (row : ℕ) (events : List Event) → OfFiles store held (λ files. GoesFrom store files (length store.files) row events)
-    → OfFiles store held (λ files. AreTables store files (map (block_table store) (blocks_in events)))
+all_tables : (store : SeenStore) (held : Option Files) (row : ℕ) (events : List Event) → IfSome held (λ files. GoesFrom store files (length store.files) row events)
+    → IfSome held (λ files. AreTables store files (map (block_table store) (blocks_in events)))
 all_tables store None row events w = tt
-all_tables store (Some files) row events w = λ short.
-    ap up_to_fault ((w short).tables
+all_tables store (Some files) row events w =
+    ap up_to_fault (w.tables
     ∙ ap (λ names. map (block_table store) (blocks_in events) ++ flat_map (walked_tables store) (walk_from store files (length store.files) row names)) (drop-length store.files)
     ∙ append-nil (map (block_table store) (blocks_in events)))
 

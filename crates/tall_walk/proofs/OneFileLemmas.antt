@@ -1,6 +1,6 @@
 -- From what was left of a file to a file of the walk.
 use Rattle.std.proofs.Common.{ℕ, ◌≡◌, ◌∙◌, ◌<◌, ◌≤◌, ◌+◌, ◌^◌, inl, inr, List, [], ◌∷◌, ◌++◌, sym, ap, subst, refl, arith, length, map}
-use Rattle.std.specs.Prelude.{◌*◌, ◌-◌, ◌≢◌, Bool, true, Option, Some, None, IfSome, option_map}
+use Rattle.std.specs.Prelude.{◌*◌, ◌-◌, Bool, true, Option, Some, None, IfSome, IsSomeAnd, option_map}
 use Rattle.std.specs.Option.{option_or}
 use Rattle.std.proofs.lemmas.List.{append_assoc, append-nil, map-append}
 use Rattle.tall_outside.specs.declared.shelf.Shelf as shelf
@@ -11,6 +11,7 @@ use Rattle.tall_cut.specs.Cuts.{IsEnded, left_by, rows_of}
 use Rattle.tall_cut.specs.Finding.{raw_count, records_of, source_left}
 use Rattle.tall_cut.specs.Left.{feed_left}
 use Rattle.tall_cut.specs.Rows.{Fields, NoneLeft, TakesMany}
+use Rattle.tall_value.specs.declared.faults.ReadingKind.TheVariants.{NoFile}
 use Rattle.tall_store.specs.declared.file_end.FileEnd.{FileEnd}
 use Rattle.tall_store.specs.declared.file_end.FileEnd.TheVariants.{Whole, Reading, Failed, TooLarge, Memory}
 use Rattle.tall_store.specs.declared.faults.ReadingFault.{ReadingFault}
@@ -19,15 +20,14 @@ use Rattle.tall_store.specs.declared.file_rows.FileBlock.{FileBlock}
 use Rattle.tall_store.specs.declared.file_rows.FileRows.{FileRows}
 use Rattle.tall_store.specs.declared.file_rows.FileStep.TheVariants as step
 use Rattle.tall_store.specs.FileSteps.{Steps, file_of, first_row, next_row, rows_left, size_of_block}
-use Rattle.tall_value.specs.declared.faults.ReadingKind.TheVariants.{NoFile}
-use Rattle.tall_store.specs.FileEnds.{EndLonger, IsAtFront, OpensFile, RefusesFile, fault_at, name_of_file, too_many, walked_file}
+use Rattle.tall_store.specs.FileEnds.{EndLonger, EndTooLong, IsAtFront, OpensFile, RefusesFile, fault_at, name_of_file, too_many, walked_file}
 use Rattle.tall_store.specs.ReadingOrder.{first_reading_fault}
 use Rattle.tall_store.specs.Stores.{SeenStore}
 use Rattle.tall_store.specs.Walk.{WalkedFile, file_faults}
 use Rattle.tall_walk.specs.declared.ends.FileOutcome.{FileOutcome}
 use Rattle.tall_walk.specs.declared.ends.FileOutcome.TheVariants.{Ended, Stopped}
 use Rattle.tall_walk.specs.Events.{Event, IsWalk, a_block, block_of}
-use Rattle.tall_walk.specs.OneFile.{EndBehind, FrontEnd, Going, GoesOn, IfEnd, IsOfFile, MeetsNext, OfFile, StopsIn, TakesUpTo, TellsFile, TellsLeft, blocks_of, cut_from, first_of}
+use Rattle.tall_walk.specs.OneFile.{EndBehind, Going, GoesOn, IfEnd, IsOfFile, MeetsNext, OfFile, StopsIn, TakesUpTo, TellsFile, TellsLeft, blocks_of, cut_from, first_of}
 use Rattle.tall_walk.proofs.Cuts.{goes_all, goes_block, goes_count, goes_first, goes_most, goes_next}
 use Rattle.tall_walk.proofs.Walks.{below_limit, first_in_append, limit_block, limit_first, walk_more}
 
@@ -127,10 +127,10 @@ whole_told : (store : SeenStore) (held : Option Files) (file first n : ℕ) (lef
     → IfSome left (λ records. n ≡ length records) → IfSome left (λ records. cut_from (rows_of store.size) file first records ≡ blocks)
     → OfFile store held file first (λ f. (f.faults ≡ []) × (n ≡ length f.records) × (blocks_of store f ≡ blocks))
 whole_told store None file first n left blocks o c a = tt
-whole_told store (Some files) file first n left blocks o c a = λ short. (
-  (o short).0,
-  of_records_left (λ records. n ≡ length records) left (walked_file store files file first).records (o short).1 c,
-  of_records_left (λ records. cut_from (rows_of store.size) file first records ≡ blocks) left (walked_file store files file first).records (o short).1 a,
+whole_told store (Some files) file first n left blocks o c a = (
+  o.0,
+  of_records_left (λ records. n ≡ length records) left (walked_file store files file first).records o.1 c,
+  of_records_left (λ records. cut_from (rows_of store.size) file first records ≡ blocks) left (walked_file store files file first).records o.1 a,
 )
 
 -- the row numbered 2^40 comes next
@@ -155,25 +155,25 @@ most_told : (store : SeenStore) (held : Option Files) (file first row : ℕ) (le
     → IfSome left (λ records. (more : List Fields) × (cut_from (rows_of store.size) file first records ≡ blocks ++ cut_from (rows_of store.size) file row more) × (2 ^ 40 < row + length more))
     → OfFile store held file first (λ f. (more : List Block) × (blocks_of store f ≡ blocks ++ more) × (first_of store f ≡ option_or (first_in_blocks store blocks) (Some (too_many file))))
 most_told store None file first row left blocks o w some l beyond rest = tt
-most_told store (Some files) file first row left blocks o w some l beyond rest = λ short.
+most_told store (Some files) file first row left blocks o w some l beyond rest =
     let f : WalkedFile = walked_file store files file first in
     let r : (more : List Fields) × (cut_from (rows_of store.size) file first f.records ≡ blocks ++ cut_from (rows_of store.size) file row more) × (2 ^ 40 < row + length more) =
     of_records_left (λ records. (more : List Fields) × (cut_from (rows_of store.size) file first records ≡ blocks ++ cut_from (rows_of store.size) file row more) × (2 ^ 40 < row + length more))
-    left f.records (o short).1 rest in
-    (cut_from (rows_of store.size) file row r.0, r.1, limit_met store f file first row (rows_of store.size) blocks r.0 (o short).0 r.1 w some l beyond r.2)
+    left f.records o.1 rest in
+    (cut_from (rows_of store.size) file row r.0, r.1, limit_met store f file first row (rows_of store.size) blocks r.0 o.0 r.1 w some l beyond r.2)
 
 next_most : (store : SeenStore) (held : Option Files) (file first row : ℕ) (left : Option (List Fields)) (blocks : List Block) (g : ReadingFault) → Opened store held file first left
     → IsWalk file first first (map a_block blocks) file first row → 0 < rows_of store.size → first ≤ 2 ^ 40 → 2 ^ 40 ≤ row
     → IfSome left (λ records. (more : List Fields) × (cut_from (rows_of store.size) file first records ≡ blocks ++ cut_from (rows_of store.size) file row more) × (2 ^ 40 < row + length more))
     → OfFile store held file first (MeetsNext store first blocks g)
 next_most store None file first row left blocks g o w some l beyond rest = tt
-next_most store (Some files) file first row left blocks g o w some l beyond rest = λ short.
+next_most store (Some files) file first row left blocks g o w some l beyond rest =
     let f : WalkedFile = walked_file store files file first in
     let r : (more : List Fields) × (cut_from (rows_of store.size) file first f.records ≡ blocks ++ cut_from (rows_of store.size) file row more) × (2 ^ 40 < row + length more) =
     of_records_left (λ records. (more : List Fields) × (cut_from (rows_of store.size) file first records ≡ blocks ++ cut_from (rows_of store.size) file row more) × (2 ^ 40 < row + length more))
-    left f.records (o short).1 rest in
+    left f.records o.1 rest in
     inr (
-      (o short).0,
+      o.0,
       l,
       λ h.
           let b : (b : Block) × (rest : List Block) × (cut_from (rows_of store.size) file row r.0 ≡ b ∷ rest) × (first_block_fault store b ≡ None → ⊥) =
@@ -188,35 +188,22 @@ stop_told : (store : SeenStore) (held : Option Files) (file first : ℕ) (left :
     → IfSome left (λ records. (more : List Block) × (cut_from (rows_of store.size) file first records ≡ blocks ++ b ∷ more))
     → OfFile store held file first (λ f. (f.faults ≡ []) × (more : List Block) × (blocks_of store f ≡ blocks ++ b ∷ more))
 stop_told store None file first left blocks b o rest = tt
-stop_told store (Some files) file first left blocks b o rest = λ short.
+stop_told store (Some files) file first left blocks b o rest =
     let f : WalkedFile = walked_file store files file first in
     let r : (more : List Block) × (cut_from (rows_of store.size) file first f.records ≡ blocks ++ b ∷ more) =
-    of_records_left (λ records. (more : List Block) × (cut_from (rows_of store.size) file first records ≡ blocks ++ b ∷ more)) left f.records (o short).1 rest in
-    ((o short).0, r.0, r.1)
-
--- a file that one opening may read is not too large
-large_told : (store : SeenStore) (held : Option Files) (file first : ℕ) (left : Option (List Fields)) → Opened store held file first left → IfSome (size_in held (name_of_file store file)) (λ n. 2 ^ 50 < n)
-    → OfFile store held file first (λ f. ⊥)
-large_told store None file first left o l = tt
-large_told store (Some files) file first left o l = λ short. by (file_in files (name_of_file store file)) short (o short).0 l
-  where
-    by : (bytes : Option (List ℕ)) → IfSome bytes (λ bs. length bs ≤ 2 ^ 50) → file_faults store bytes file first ≡ [] → IfSome (option_map length bytes) (λ n. 2 ^ 50 < n) → ⊥
-    by None s f l = none f
-      where
-        none : fault_at NoFile file first ∷ [] ≡ [] → ⊥
-        none e = cc
-    by (Some bs) s f l = omega (arith, s, l)
+    of_records_left (λ records. (more : List Block) × (cut_from (rows_of store.size) file first records ≡ blocks ++ b ∷ more)) left f.records o.1 rest in
+    (o.0, r.0, r.1)
 
 pub tells_file : {E : Type 0} (P : List Event → Type 0) (Q : E → List Event → Event → Type 0) (store : SeenStore) (held : Option Files) (size file first : ℕ) (before : List Event) (left : Option (List Fields)) (end : FileOutcome E)
     → size ≡ rows_of store.size → 0 < size → first ≤ 2 ^ 40 → Opened store held file first left → TellsLeft P Q size file first before left end
-    → IfEnd end (λ x. EndLonger x (size_in held (name_of_file store file))) → TellsFile P Q store held file first before end
-tells_file P Q store held size file first before left (Ended (Whole n)) e some l o t longer = record {
+    → TellsFile P Q store held file first before end
+tells_file P Q store held size file first before left (Ended (Whole n)) e some l o t = record {
   blocks = t.blocks;
   takes = t.takes;
   few = t.few;
   told = whole_told store held file first n left t.blocks o t.count (subst (λ s. IfSome left (λ records. cut_from s file first records ≡ t.blocks)) e t.all);
 }
-tells_file P Q store held size file first before left (Ended (Reading g)) e some l o t longer = record {
+tells_file P Q store held size file first before left (Ended (Reading g)) e some l o t = record {
   blocks = t.1.blocks;
   row = t.1.row;
   takes = t.1.takes;
@@ -227,10 +214,10 @@ tells_file P Q store held size file first before left (Ended (Reading g)) e some
       (most_told store held file first t.1.row left t.1.blocks o t.1.takes.walks (subst (λ s. 0 < s) e some) l t.1.beyond
       (subst (λ s. IfSome left (λ records. (more : List Fields) × (cut_from s file first records ≡ t.1.blocks ++ cut_from s file t.1.row more) × (2 ^ 40 < t.1.row + length more))) e t.1.rest));
 }
-tells_file P Q store held size file first before left (Ended Failed) e some l o t longer = tt
-tells_file P Q store held size file first before left (Ended TooLarge) e some l o t longer = large_told store held file first left o (longer refl)
-tells_file P Q store held size file first before left (Ended Memory) e some l o t longer = tt
-tells_file P Q store held size file first before left (Stopped x) e some l o t longer = record {
+tells_file P Q store held size file first before left (Ended Failed) e some l o t = tt
+tells_file P Q store held size file first before left (Ended TooLarge) e some l o t = tt
+tells_file P Q store held size file first before left (Ended Memory) e some l o t = tt
+tells_file P Q store held size file first before left (Stopped x) e some l o t = record {
   blocks = t.blocks;
   row = t.row;
   block = t.block;
@@ -240,23 +227,37 @@ tells_file P Q store held size file first before left (Stopped x) e some l o t l
   told = stop_told store held file first left t.blocks t.block o (subst (λ s. IfSome left (λ records. (more : List Block) × (cut_from s file first records ≡ t.blocks ++ t.block ∷ more))) e t.rest);
 }
 
+-- a file that was opened is there, so one that is too large is longer than one opening may be
+pub long_file : {E : Type 0} (store : SeenStore) (held : Option Files) (file first : ℕ) (left : Option (List Fields)) (size : Option ℕ) (end : FileOutcome E) → size_in held (name_of_file store file) ≡ size → Opened store held file first left
+    → IfEnd end (λ x. EndLonger x size) → IfEnd end (EndTooLong held (name_of_file store file))
+long_file store held file first left size (Stopped e) s o l = tt
+long_file store None file first left size (Ended x) s o l = λ e. tt
+long_file store (Some files) file first left size (Ended x) s o l = λ e. by (file_in files (name_of_file store file)) o.0 (subst (λ n. IfSome n (λ m. 2 ^ 50 < m)) (sym s) (l e))
+  where
+    by : (bytes : Option (List ℕ)) → file_faults store bytes file first ≡ [] → IfSome (option_map length bytes) (λ n. 2 ^ 50 < n) → IsSomeAnd bytes (λ b. 2 ^ 50 < length b)
+    by None f l = absurd (none f)
+      where
+        none : fault_at NoFile file first ∷ [] ≡ [] → ⊥
+        none e = cc
+    by (Some b) f l = l
+
 -- ---- a file that is not read from its first row on
 
 next_front : (store : SeenStore) (held : Option Files) (file first : ℕ) (g : ReadingFault) → OfFile store held file first (λ f. RefusesFile f (Reading g)) → OfFile store held file first (MeetsNext store first [] g)
 next_front store None file first g r = tt
-next_front store (Some files) file first g r = λ short. inl (refl, r short)
+next_front store (Some files) file first g r = inl (refl, r)
 
 front_told : (store : SeenStore) (held : Option Files) (file first : ℕ) (g : ReadingFault) → OfFile store held file first (λ f. RefusesFile f (Reading g))
     → OfFile store held file first (λ f. (more : List Block) × (blocks_of store f ≡ [] ++ more) × (first_of store f ≡ option_or (first_in_blocks store []) (Some g)))
 front_told store None file first g r = tt
-front_told store (Some files) file first g r = λ short.
+front_told store (Some files) file first g r =
     let f : WalkedFile = walked_file store files file first in
-    (blocks_of store f, refl, ap (λ fs. option_or (first_reading_fault fs) (first_in_blocks store (blocks_of store f))) (r short))
+    (blocks_of store f, refl, ap (λ fs. option_or (first_reading_fault fs) (first_in_blocks store (blocks_of store f))) r)
 
 pub refuses_file : {E : Type 0} (P : List Event → Type 0) (Q : E → List Event → Event → Type 0) (store : SeenStore) (held : Option Files) (file first : ℕ) (before : List Event) (end : FileEnd)
-    → IsAtFront file first end → OfFile store held file first (λ f. RefusesFile f end) → (end ≢ TooLarge) → P before → TellsFile P Q store held file first before (Ended end)
-refuses_file P Q store held file first before (Whole n) a r not_large p = absurd a
-refuses_file P Q store held file first before (Reading g) a r not_large p = record {
+    → IsAtFront file first end → OfFile store held file first (λ f. RefusesFile f end) → P before → TellsFile P Q store held file first before (Ended end)
+refuses_file P Q store held file first before (Whole n) a r p = absurd a
+refuses_file P Q store held file first before (Reading g) a r p = record {
   blocks = [];
   row = first;
   takes = takes_first P file first before p;
@@ -268,9 +269,9 @@ refuses_file P Q store held file first before (Reading g) a r not_large p = reco
     own : IsAtFront file first (Reading g) → IsOfFile file first g
     own (inl e) = inl e
     own (inr e) = inr (inl e)
-refuses_file P Q store held file first before Failed a r not_large p = tt
-refuses_file P Q store held file first before TooLarge a r not_large p = absurd (not_large refl)
-refuses_file P Q store held file first before Memory a r not_large p = tt
+refuses_file P Q store held file first before Failed a r p = tt
+refuses_file P Q store held file first before TooLarge a r p = tt
+refuses_file P Q store held file first before Memory a r p = tt
 
 -- ---- the reader's steps
 
@@ -357,11 +358,6 @@ end_few old new Memory told beyond first n t (inl e) z w = absurd (other (sym e.
   where
     other : Memory ≡ Whole n → ⊥
     other e = cc
-
--- an end before the first row
-pub front_end : (P : FileEnd → Type 0) (end told : FileEnd) → FrontEnd end told → P Memory → (end ≢ TooLarge → P end) → P told
-front_end P end told (inl f) m h = subst P (sym f.0) (h f.1)
-front_end P end told (inr e) m h = subst P (sym e) m
 
 pub front_few : (file row n : ℕ) (end : FileEnd) → IsAtFront file row end → end ≡ Whole n → ⊥
 front_few file row n (Whole m) a e = a

@@ -10,7 +10,7 @@ use Rattle.tall_store.specs.declared.faults.ReadingFault.{ReadingFault}
 use Rattle.tall_store.specs.declared.file_end.FileEnd.{FileEnd}
 use Rattle.tall_store.specs.declared.file_end.FileEnd.TheVariants.{Whole, Reading, Failed, TooLarge, Memory}
 use Rattle.tall_store.specs.Blocks.{Block, first_block_fault, first_in_blocks, in_blocks, numbered_blocks, walked_blocks}
-use Rattle.tall_store.specs.FileEnds.{IsShort, fault_at, name_of_file, too_many, walked_file}
+use Rattle.tall_store.specs.FileEnds.{fault_at, too_many, walked_file}
 use Rattle.tall_store.specs.ReadingOrder.{first_reading_fault}
 use Rattle.tall_store.specs.Stores.{SeenStore}
 use Rattle.tall_store.specs.Walk.{WalkedFile}
@@ -89,9 +89,9 @@ blocks_of store f = walked_blocks (cut_of store) f
 abbrev pub first_of : SeenStore → WalkedFile → Option ReadingFault
 first_of store f = option_or (first_reading_fault f.faults) (first_in_blocks store (blocks_of store f))
 
--- where the shelf tells and one opening may read all of the file
+-- where the shelf tells
 abbrev pub OfFile : SeenStore → Option Files → (file row : ℕ) → (WalkedFile → Type 0) → Type 0
-OfFile store held file row P = IfSome held (λ files. IsShort files (name_of_file store file) → P (walked_file store files file row))
+OfFile store held file row P = IfSome held (λ files. P (walked_file store files file row))
 
 pub record WholeFile (P : List Event → Type 0) (store : SeenStore) (held : Option Files) (file first n : ℕ) (before : List Event) : Type 0 where
   pub blocks : List Block
@@ -125,12 +125,12 @@ pub record StopsInFile (P : List Event → Event → Type 0) (store : SeenStore)
   pub next : IsWalk file first row (a_block block ∷ []) file first (row + length block.records)
   pub told : OfFile store held file first (λ f. (f.faults ≡ []) × (more : List Block) × (blocks_of store f ≡ blocks ++ block ∷ more))
 
--- what an outcome says of a file from the row on that comes next. A file that one opening may read is never too large
+-- what an outcome says of a file from the row on that comes next
 abbrev pub TellsFile : {E : Type 0} → (List Event → Type 0) → (E → List Event → Event → Type 0) → SeenStore → Option Files → (file first : ℕ) → List Event → FileOutcome E → Type 0
 TellsFile P Q store held file first before (Ended (Whole n)) = WholeFile P store held file first n before
 TellsFile P Q store held file first before (Ended (Reading g)) = FaultOfFile P store held file first before g
 TellsFile P Q store held file first before (Ended Failed) = ⊤
-TellsFile P Q store held file first before (Ended TooLarge) = OfFile store held file first (λ f. ⊥)
+TellsFile P Q store held file first before (Ended TooLarge) = ⊤
 TellsFile P Q store held file first before (Ended Memory) = ⊤
 TellsFile P Q store held file first before (Stopped e) = StopsInFile (Q e) store held file first before
 
@@ -144,10 +144,6 @@ IfEnd (Stopped e) P = ⊤
 -- the end of a reading, where the row that comes next is 2^40 or above, or not
 abbrev pub EndBehind : FileEnd → Bool → FileEnd → Type 0
 EndBehind end beyond result = ((result ≡ end) × ((g : ReadingFault) → end ≡ Reading g → beyond ≡ true)) ⊎ (result ≡ Memory)
-
--- an end before the first row; a header that is longer than one opening may be is held by no memory
-abbrev pub FrontEnd : FileEnd → FileEnd → Type 0
-FrontEnd end result = ((result ≡ end) × (end ≢ TooLarge)) ⊎ (result ≡ Memory)
 
 -- ---- openings
 

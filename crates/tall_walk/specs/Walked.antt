@@ -4,12 +4,12 @@ use Rattle.std.specs.List.{flat_map}
 use Rattle.std.specs.Option.{option_or}
 use Rattle.tall_outside.specs.Count.{Rose}
 use Rattle.tall_outside.specs.OpenedNames.{Adds, OpensOnce}
-use Rattle.tall_outside.specs.Shelf.{Files, file_in}
+use Rattle.tall_outside.specs.Shelf.{Files}
 use Rattle.tall_outside.specs.ShelfCounts.{Counts}
 use Rattle.tall_value.specs.declared.faults.ReadingKind.TheVariants.{NoFile}
 use Rattle.tall_store.specs.declared.faults.ReadingFault.{ReadingFault}
 use Rattle.tall_store.specs.Blocks.{all_blocks, block_table, block_tables, first_met_from, first_refused, in_blocks, walked_blocks, walked_tables}
-use Rattle.tall_store.specs.FileEnds.{IsShort, name_of_file}
+use Rattle.tall_store.specs.FileEnds.{IsTooLong, name_of_file}
 use Rattle.tall_store.specs.Stored.{file_faults_from, first_fault}
 use Rattle.tall_store.specs.Stores.{SeenStore}
 use Rattle.tall_store.specs.Walk.{walk_from}
@@ -20,15 +20,6 @@ use Rattle.tall_walk.specs.declared.ends.WalkEnd.{WalkEnd}
 use Rattle.tall_walk.specs.declared.ends.WalkEnd.TheVariants.{Whole, Reading, Stopped, Read, TooLarge, Memory}
 use Rattle.tall_walk.specs.Events.{AreTables, Event, IsWalk, Tables, all_events, blocks_in, cut_of, events_from, first_in}
 use Rattle.tall_walk.specs.OneFile.{IsOfFile}
-
--- each file may be read whole by one opening
-abbrev pub AreShort : Files → List (List ℕ) → Type 0
-AreShort files [] = ⊤
-AreShort files (name ∷ names) = IsShort files name × AreShort files names
-
--- where the shelf tells, and one opening may read all of each file
-abbrev pub OfFiles : SeenStore → Option Files → (Files → Type 0) → Type 0
-OfFiles store held P = IfSome held (λ files. AreShort files store.files → P files)
 
 -- ---- from file to file
 
@@ -46,7 +37,7 @@ pub record WalkedTo (P : List Event → Type 0) (store : SeenStore) (held : Opti
   pub events : List Event
   pub taken : P events
   pub walks : IsWalk 0 1 1 events file row row
-  pub goes : OfFiles store held (λ files. GoesFrom store files file row events)
+  pub goes : IfSome held (λ files. GoesFrom store files file row events)
 
 -- ---- ends
 
@@ -58,8 +49,8 @@ pub record WalksAll (P : List Event → Type 0) (store : SeenStore) (held : Opti
   pub taken : P events
   pub walks : IsWalk 0 1 1 events (length store.files) row row
   pub few : row ≤ 2 ^ 40
-  pub told : OfFiles store held (λ files. (events ≡ all_events store files) × (blocks_in events ≡ all_blocks store files) × (file_faults_from store files 0 1 store.files ≡ []) × (first_fault store files ≡ first_in store events))
-  pub tables : OfFiles store held (λ files. AreTables store files (map (block_table store) (blocks_in events)))
+  pub told : IfSome held (λ files. (events ≡ all_events store files) × (blocks_in events ≡ all_blocks store files) × (file_faults_from store files 0 1 store.files ≡ []) × (first_fault store files ≡ first_in store events))
+  pub tables : IfSome held (λ files. AreTables store files (map (block_table store) (blocks_in events)))
 
 -- a fault of a file itself: where the shelf tells, all that comes before it was taken, and it is the first of the datastore
 -- but for faults in what was taken
@@ -70,8 +61,8 @@ pub record MeetsFault (P : List Event → Type 0) (store : SeenStore) (held : Op
   pub taken : P events
   pub walks : IsWalk 0 1 1 events g.file first row
   pub own : IsOfFile g.file first g
-  pub told : OfFiles store held (λ files. (more : List Event) × (all_events store files ≡ events ++ more) × (first_fault store files ≡ option_or (first_in store events) (Some g)))
-  pub tables : OfFiles store held (λ files. AreTables store files (map (block_table store) (blocks_in events) ++ Err g ∷ []))
+  pub told : IfSome held (λ files. (more : List Event) × (all_events store files ≡ events ++ more) × (first_fault store files ≡ option_or (first_in store events) (Some g)))
+  pub tables : IfSome held (λ files. AreTables store files (map (block_table store) (blocks_in events) ++ Err g ∷ []))
 
 -- the taker stopped: where the shelf tells, all that comes before was taken, and the first fault in this and in the block at
 -- which it stopped, if there is one, is the first of the datastore
@@ -85,9 +76,9 @@ pub record StopsAt (P : List Event → Event → Type 0) (store : SeenStore) (he
   pub walks : IsWalk 0 1 1 events file first row
   pub next : (k m n : ℕ) × IsWalk file first row (event ∷ []) k m n
   pub below : file < opened
-  pub told : OfFiles store held (λ files. (more : List Event) × (all_events store files ≡ events ++ event ∷ more)
+  pub told : IfSome held (λ files. (more : List Event) × (all_events store files ≡ events ++ event ∷ more)
       × ((g : ReadingFault) → first_in store (events ++ event ∷ []) ≡ Some g → first_fault store files ≡ Some g))
-  pub tables : OfFiles store held (λ files. (rest : Tables) × AreTables store files (map (block_table store) (blocks_in (events ++ event ∷ [])) ++ rest))
+  pub tables : IfSome held (λ files. (rest : Tables) × AreTables store files (map (block_table store) (blocks_in (events ++ event ∷ [])) ++ rest))
 
 -- what an end says, where so many files were opened
 abbrev pub TellsEnd : {E : Type 0} → (List Event → Type 0) → (E → List Event → Event → Type 0) → SeenStore → Option Files → (opened : ℕ) → WalkEnd E → Type 0
@@ -95,7 +86,7 @@ TellsEnd P Q store held opened Whole = WalksAll P store held × (opened ≡ leng
 TellsEnd P Q store held opened (Reading g) = MeetsFault P store held g × (g.file < opened)
 TellsEnd P Q store held opened (Stopped e) = StopsAt (Q e) store held opened
 TellsEnd P Q store held opened (Read file) = file < opened
-TellsEnd P Q store held opened (TooLarge file) = (file < opened) × OfFiles store held (λ files. ⊥)
+TellsEnd P Q store held opened (TooLarge file) = file < opened
 TellsEnd P Q store held opened Memory = ⊤
 
 -- the first files of the list were opened, each once and in order, and no other; the one that the end names among them
@@ -114,13 +105,13 @@ IsExplained (Read file) before after = Rose before.faults after.faults
 IsExplained (TooLarge file) before after = 2 ^ 50 < after.came
 IsExplained Memory before after = ⊤
 
--- a file is too large only where it is longer than one opening may be
+-- a file is too large only where it is there, and longer than one opening may be
 abbrev pub IsLonger : {E : Type 0} → SeenStore → Option Files → WalkEnd E → Type 0
 IsLonger store held Whole = ⊤
 IsLonger store held (Reading g) = ⊤
 IsLonger store held (Stopped e) = ⊤
 IsLonger store held (Read file) = ⊤
-IsLonger store held (TooLarge file) = IfSome held (λ files. IfSome (file_in files (name_of_file store file)) (λ bytes. 2 ^ 50 < length bytes))
+IsLonger store held (TooLarge file) = IfSome held (λ files. IsTooLong files (name_of_file store file))
 IsLonger store held Memory = ⊤
 
 -- ---- one file more
@@ -140,7 +131,7 @@ EndsNext P Q store held next Whole = ⊥
 EndsNext P Q store held next (Reading g) = MeetsFault P store held g × (g.file ≡ next)
 EndsNext P Q store held next (Stopped e) = StopsAt (Q e) store held (next + 1)
 EndsNext P Q store held next (Read file) = file ≡ next
-EndsNext P Q store held next (TooLarge file) = (file ≡ next) × OfFiles store held (λ files. ⊥)
+EndsNext P Q store held next (TooLarge file) = file ≡ next
 EndsNext P Q store held next Memory = ⊤
 
 -- the file was opened once; for want of memory it may not have been opened

@@ -1,15 +1,15 @@
 //! The walk over files.
 ghost use Rattle.std.specs.Prelude.{◌≡◌, ◌≢◌, ◌<◌, ◌≤◌, ◌^◌, ◌+◌, ◌++◌, ◌∷◌, ◌⊎◌, [], ℕ, IfErr, IfOk, List, Some, length, true};
 ghost use Rattle.tall_outside.specs.ShelfCounts.{IsLater, shelf_counts};
-ghost use Rattle.tall_cut.specs.Asked.{Asks, size_in};
+ghost use Rattle.tall_cut.specs.Asked.{Asks};
 ghost use Rattle.tall_cut.specs.Cuts.{rows_of};
 ghost use Rattle.tall_cut.specs.Finding.{raw_count};
 ghost use Rattle.tall_store.specs.Causes.{opening_counts};
-ghost use Rattle.tall_store.specs.FileEnds.{EndExplained, EndLonger, IsReadWhole, name_of_file};
+ghost use Rattle.tall_store.specs.FileEnds.{EndExplained, EndLonger, EndTooLong, name_of_file};
 ghost use Rattle.tall_store.specs.FileSteps.{file_of, first_row, next_row, rows_left, rows_shelf, size_of_block};
 ghost use Rattle.tall_store.specs.Stores.{IsStore};
 ghost use Rattle.tall_walk.specs.Events.{Event, a_block, block_of};
-ghost use Rattle.tall_walk.specs.OneFile.{EndBehind, FrontEnd, IfEnd, OpensOne, TellsFile, TellsLeft, WholeFile};
+ghost use Rattle.tall_walk.specs.OneFile.{EndBehind, IfEnd, OpensOne, TellsFile, TellsLeft, WholeFile};
 ghost use Rattle.tall_walk.specs.Walked.{EndsAs, EndsNext, IsExplained, IsLonger, OpensNext, Walked, WalkedTo};
 
 use crate::ends::{FileOutcome, WalkEnd};
@@ -73,16 +73,6 @@ fn end_behind(end: FileEnd, beyond: bool) -> FileEnd
     }
 }
 
-// An end before the first row. A header of more bytes than one opening may give is held by no memory.
-fn front_end(end: FileEnd) -> FileEnd
-    ensures { FrontEnd end result }
-{
-    match end {
-        FileEnd::TooLarge => FileEnd::Memory,
-        other => other,
-    }
-}
-
 // Hands all that is left of a file to the taker.
 fn walk_left<'s, S: Shelf, K: OpenedFile, T: TakesBlocks>(
     rows: &mut FileRows<'s, S, K>,
@@ -137,7 +127,7 @@ fn walk_lent<'s, S: Shelf, K: OpenedFile, T: TakesBlocks>(
     ensures files { T.files taker.new ≡ T.files taker.old }
     ensures later { IsLater (opening_counts K.OpenedFile) (shelf_counts S.Shelf result.shelf.now) }
     ensures explained { IfEnd outcome.new (λ end. EndExplained end (opening_counts K.OpenedFile) (shelf_counts S.Shelf result.shelf.now)) }
-    ensures longer { IfEnd outcome.new (λ end. EndLonger end K.size) }
+    ensures longer { IfEnd outcome.new (EndTooLong K.held (name_of_file store.now file)) }
     ensures opens { OpensOne (name_of_file store.now file) (S.opened lent.entry.shelf.now) (S.opened result.shelf.now) outcome.new }
     ensures few { IfEnd outcome.new (λ end. (n : ℕ) → end ≡ FileEnd.Whole n → row + n ≤ 2 ^ 40) }
 {
@@ -148,7 +138,7 @@ fn walk_lent<'s, S: Shelf, K: OpenedFile, T: TakesBlocks>(
             rows.into_lent()
         }
         Err(refused) => {
-            *outcome = FileOutcome::Ended(front_end(refused.end));
+            *outcome = FileOutcome::Ended(refused.end);
             refused.lent
         }
     }
@@ -173,7 +163,7 @@ fn walk_file<S: Shelf, T: TakesBlocks>(
     ensures held { S.held shelf.new ≡ S.held shelf.old }
     ensures later { IsLater (shelf_counts S.Shelf shelf.old) (shelf_counts S.Shelf shelf.new) }
     ensures explained { IfEnd result (λ end. EndExplained end (shelf_counts S.Shelf shelf.old) (shelf_counts S.Shelf shelf.new)) }
-    ensures longer { IfEnd result (λ end. EndLonger end (size_in (S.held shelf.old) (name_of_file store.now file))) }
+    ensures longer { IfEnd result (EndTooLong (S.held shelf.old) (name_of_file store.now file)) }
     ensures opens { OpensOne (name_of_file store.now file) (S.opened shelf.old) (S.opened shelf.new) result }
     ensures few { IfEnd result (λ end. (n : ℕ) → end ≡ FileEnd.Whole n → row + n ≤ 2 ^ 40) }
 {

@@ -1,5 +1,5 @@
 -- No function takes none, or more than four.
-use Rattle.std.specs.Prelude.{map, length}
+use Rattle.std.specs.Prelude.{map}
 use Rattle.std.proofs.Common.{ap, sym, ◌∙◌}
 use Rattle.std.proofs.lemmas.List.{length-map}
 use Rattle.tall_script.specs.ScriptLanguage.{application_answer}

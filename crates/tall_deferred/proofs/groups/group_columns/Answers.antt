@@ -1,7 +1,6 @@
 -- Part by part.
-use Rattle.std.specs.Prelude.{◌≡◌, ◌<◌, ◌+◌, refl, drop, length, map}
-use Rattle.std.proofs.Common.{ap, subst, sym, ◌∙◌, arith}
-use Rattle.std.proofs.lemmas.List.{length-append}
+use Rattle.std.specs.Prelude.{◌≡◌, ◌<◌, ◌+◌, drop, length, map}
+use Rattle.std.proofs.Common.{subst, sym, arith}
 use Rattle.tall_graph.specs.Vertices.{part_of}
 use Rattle.tall_local.specs.Lists.{each_of}
 use Rattle.tall_semantics.specs.Deferred.{AllBelow}

@@ -1,10 +1,10 @@
 -- The key's column, the data's, and their groups.
-use Rattle.std.specs.Prelude.{refl, [], ◌∷◌, Result}
+use Rattle.std.specs.Prelude.{refl, [], ◌∷◌}
 use Rattle.std.proofs.Common.{subst, sym}
 use Rattle.tall_value.specs.SummaryNames.{summary_names}
 use Rattle.tall_semantics.specs.Talls.{Tall}
-use Rattle.tall_local.specs.Refusals.{Refusal, and_then}
-use Rattle.tall_script.specs.ScriptValues.{TallValue, group_columns, summary_table, tall_variable}
+use Rattle.tall_local.specs.Refusals.{and_then}
+use Rattle.tall_script.specs.ScriptValues.{group_columns, summary_table, tall_variable}
 use Rattle.tall_deferred.specs.Answers.{Comes}
 use Rattle.tall_deferred.specs.Faults.{IsDue}
 use Rattle.tall_deferred.specs.Values.{at_seen, value_at, variables_at}

@@ -1,7 +1,6 @@
 -- The names that the method's has.
-use Rattle.std.specs.Prelude.{◌≡◌, Some, None, Ok, length, map, option_map, string_bytes}
+use Rattle.std.specs.Prelude.{Some, Ok, length, map, option_map, string_bytes}
 use Rattle.std.proofs.Common.{ap, subst, sym, ◌∙◌}
-use Rattle.tall_value.specs.SummaryNames.{summary_names}
 use Rattle.tall_functions.specs.Summaries.{names_with}
 use Rattle.tall_script.specs.ScriptValues.{summary_table}
 use Rattle.tall_deferred.specs.Answers.{Comes}

@@ -1,5 +1,4 @@
 -- By what the graph tells of the index.
-use Rattle.std.specs.Prelude.{◌≡◌}
 use Rattle.std.proofs.Common.{ap, ◌∙◌}
 use Rattle.tall_local.specs.MemoryIndexing.{is_logical}
 use Rattle.tall_semantics.specs.Shapes.{Shape}

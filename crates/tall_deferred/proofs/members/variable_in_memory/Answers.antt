@@ -1,9 +1,9 @@
 -- A variable in memory is that of the script.
-use Rattle.std.specs.Prelude.{refl, Ok, Err}
-use Rattle.std.proofs.Common.{ap, sym, subst, ◌∙◌}
+use Rattle.std.specs.Prelude.{refl}
+use Rattle.std.proofs.Common.{ap}
 use Rattle.tall_local.specs.MemoryIndexing.{memory_member}
 use Rattle.tall_local.specs.Values.{memory_answer}
-use Rattle.tall_memory.specs.Values.{ref_seen, Lends}
+use Rattle.tall_memory.specs.Values.{ref_seen}
 use Rattle.tall_script.specs.ScriptValues.{member_value}
 use Rattle.tall_deferred.proofs.Grown.{due_through}
 use Rattle.tall_deferred.proofs.members.variable_in_memory.Goals as goal

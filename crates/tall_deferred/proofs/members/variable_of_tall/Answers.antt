@@ -1,6 +1,6 @@
 -- A variable of a tall table is a tall value.
-use Rattle.std.specs.Prelude.{refl, Ok, Err}
-use Rattle.std.proofs.Common.{ap, sym, subst, ◌∙◌}
+use Rattle.std.specs.Prelude.{refl}
+use Rattle.std.proofs.Common.{ap}
 use Rattle.tall_script.specs.ScriptValues.{member_value, tall_variable, tall_answer}
 use Rattle.tall_deferred.specs.Values.{variables_at}
 use Rattle.tall_deferred.proofs.Grown.{due_through}

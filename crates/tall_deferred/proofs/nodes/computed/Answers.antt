@@ -1,5 +1,5 @@
 -- The new node has the value of its operation; a refused operation has none.
-use Rattle.std.proofs.Common.{sym, subst, ◌∙◌}
+use Rattle.std.proofs.Common.{subst}
 use Rattle.std.specs.Prelude.{map}
 use Rattle.tall_semantics.specs.Deferred.{IsMeaning}
 use Rattle.tall_graph.specs.Vertices.{made_of, vertex, refusal_of}

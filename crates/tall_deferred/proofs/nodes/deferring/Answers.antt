@@ -1,5 +1,5 @@
 -- The operation's value, where there is one, is the answer.
-use Rattle.std.specs.Prelude.{refl, Err, map}
+use Rattle.std.specs.Prelude.{refl, map}
 use Rattle.tall_graph.specs.Vertices.{made_of, vertex}
 use Rattle.tall_script.specs.ScriptValues.{tall_answer}
 use Rattle.std.proofs.Common.{ap}

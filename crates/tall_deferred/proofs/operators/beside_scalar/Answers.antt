@@ -1,6 +1,5 @@
 -- The constant, and then the operator over it.
 use Rattle.std.specs.Prelude.{[]}
-use Rattle.std.proofs.Common.{sym}
 use Rattle.tall_value.specs.Cells.{seen}
 use Rattle.tall_value.specs.OwnedCells.{owned_seen}
 use Rattle.tall_graph.specs.Vertices.{vertex}
@@ -9,7 +8,7 @@ use Rattle.tall_script.specs.ScriptValues.{deferring}
 use Rattle.tall_semantics.specs.Operations as op
 use Rattle.tall_deferred.specs.Operands.{pair_of}
 use Rattle.tall_deferred.specs.Values.{at_seen}
-use Rattle.tall_deferred.proofs.Grown.{may_add, may_add_behind, adds_one, adds_behind, no_more, meaning_pushed, meaning_same}
+use Rattle.tall_deferred.proofs.Grown.{may_add, may_add_behind, adds_one, adds_behind, meaning_pushed, meaning_same}
 use Rattle.tall_deferred.proofs.Operands.{args_within, joined_given, joined_refused, constant_refused}
 use Rattle.tall_deferred.proofs.operators.beside_scalar.Goals as goal
 

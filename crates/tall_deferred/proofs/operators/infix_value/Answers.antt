@@ -1,5 +1,4 @@
 -- The test on scalars, and then the operator that the sign stands for.
-use Rattle.std.specs.Prelude.{Err}
 use Rattle.tall_deferred.specs.Values.{at_seen, lent_at}
 use Rattle.tall_deferred.proofs.Grown.{meaning_before}
 use Rattle.tall_deferred.proofs.Operands.{infix_given, infix_refused}

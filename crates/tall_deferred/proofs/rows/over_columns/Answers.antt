@@ -1,5 +1,5 @@
 -- Column by column.
-use Rattle.std.specs.Prelude.{ℕ, List, ◌<◌, ◌≡◌, ◌+◌, drop, length}
+use Rattle.std.specs.Prelude.{ℕ, List, ◌≡◌, ◌+◌, drop, length}
 use Rattle.std.specs.List.{All}
 use Rattle.std.proofs.Common.{ap, subst, sym}
 use Rattle.tall_script.specs.ScriptValues.{over_columns}
@@ -9,7 +9,7 @@ use Rattle.tall_deferred.specs.Rows.{rows_op, rows_args}
 use Rattle.tall_deferred.specs.Values.{IsVariable, at_seen, variables_at}
 use Rattle.tall_deferred.specs.declared.values.Variable.{Variable}
 use Rattle.tall_deferred.proofs.Grown.{meaning_pushed, meaning_same}
-use Rattle.tall_deferred.proofs.RowLaws.{kept, column_may, column_grown, columns_extend, column_turn, column_stop, columns_end, grown_within}
+use Rattle.tall_deferred.proofs.RowLaws.{kept, column_grown, columns_extend, column_turn, column_stop, columns_end, grown_within}
 use Rattle.tall_deferred.proofs.rows.over_columns.Goals as goal
 
 abbrev variable : List ℕ → ℕ → Variable

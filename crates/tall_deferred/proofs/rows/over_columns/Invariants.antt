@@ -1,4 +1,4 @@
-use Rattle.std.specs.Prelude.{◌≡◌, ℕ, ◌++◌, List, length, drop, take}
+use Rattle.std.specs.Prelude.{◌≡◌, ℕ, ◌++◌, length, drop, take}
 use Rattle.std.specs.List.{All}
 use Rattle.tall_semantics.specs.Deferred.{IsMeaning}
 use Rattle.tall_semantics.specs.Talls.{Tall, Columns}

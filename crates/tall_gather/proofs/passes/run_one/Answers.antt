@@ -145,6 +145,6 @@ returns-clause-told g c files e list columns f told holds =
     let w = told.same c.args.pass.now.store store at in
     let gives = given columns c.args.graph.now f rules_of.made rules_of.ordered rules_of.numbered c.args.roots.now (seen c.args.candidate) c.args.pass.now c.in-Ok.part c.requires.planned part files list c.args.stores.now store at c.args.known.now c.run_pass-answer.new.known c.args.counts.now.items told holds c.index_mut.result.now here in
     let tells_it = c.run_pass-answer.ensures.told files e list w.0 columns f c.args.roots.now (seen c.args.candidate) gives in
-    let right = c.run_pass-answer.ensures.right files e (told.short c.args.pass.now.store store at) (holds.counted c.args.pass.now.store store c.index_mut.result.now at here) in
+    let right = c.run_pass-answer.ensures.right files e (holds.counted c.args.pass.now.store store c.index_mut.result.now at here) in
     tells columns c.args.graph.now f rules_of.made rules_of.ordered rules_of.numbered c.args.roots.now (seen c.args.candidate) c.args.pass.now c.in-Ok.part c.requires.planned part files list c.args.stores.now store at c.args.known.now c.run_pass-answer.new.known c.args.counts.now.items told holds
     c.run_pass-answer.new.counts right some c.run_pass-answer.result c.answer_of.result c.answer_of.ensures c.run_pass-answer.ensures.adds c.run_pass-answer.ensures.stays tells_it

@@ -34,7 +34,7 @@ returns g c =
     (ends_sooner (Takes (goal.C-pre g) (goal.C-post g) g.K.MapGiven 1 t) (Takes (goal.C-pre g) (goal.C-post g) g.K.MapGiven 0 t) o how c.end_walk.result
     (λ events taken. no_room o (goal.C-pre g t.call.now) (goal.C-post g t.call.now) t.most t.pairs t.window.items events taken) c.end_walk.ensures) in
     record {
-      told = λ files e short d same. told w.store w.function held walked.opened how files c.end_walk.result e short s d same;
+      told = λ files e d same. told w.store w.function held walked.opened how files c.end_walk.result e s d same;
       held = c.walk_files-end.ensures.held;
       later = c.walk_files-end.ensures.later;
       opens = opens w.store w.function held walked.opened how before now c.end_walk.result walked.within walked.opens s;

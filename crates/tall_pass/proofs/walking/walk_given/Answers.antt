@@ -136,4 +136,4 @@ returns-clause-told g c =
     let s : Says w first held walked.opened how c.end_walk.result =
     says w first (Takes (goal.C-pre g) (goal.C-post g) g.K.PassGiven taker) held c.requires.store (λ es t. inside_of g.K.PassGiven.inputs (inputs_of taker) w first taker.joined taker.window.items taker.counts es c.requires.given t.0 t.2)
     (λ e es ev. OfInputs g.K.PassGiven.inputs (λ v. HasStopped v.store first e es ev)) before now how c.end_walk.result (λ e es ev h. stops_of g.K.PassGiven.inputs w first e es ev c.requires.given h) walked (c.end_walk.ensures w c.requires.given) in
-    λ files e short. subst (λ f. WalkTells w files f c.end_walk.result) c.requires.known (told w first held walked.opened how files c.end_walk.result e short s)
+    λ files e. subst (λ f. WalkTells w files f c.end_walk.result) c.requires.known (told w first held walked.opened how files c.end_walk.result e s)

@@ -16,4 +16,4 @@ returns-clause-ends g c =
 pub returns-clause-front : goal.returns-clause-front
 returns-clause-front g c = λ a answers.
     let tells : Some (state_of c.in-Ok-new.shelf).files ≡ Some (demo_files c.args.rows) = search rules in
-    c.run_script.ensures.front (demo_files c.args.rows) tells (demo_within c.args.rows c.requires.rows) a answers
+    c.run_script.ensures.front (demo_files c.args.rows) tells a answers

@@ -2,7 +2,6 @@ use Rattle.std.specs.Prelude.{◌≡◌, ◌++◌, IfErr, IfOk, Some}
 use Rattle.std.proofs.Common.{subst}
 use Rattle.tall_gather.specs.Gathered.{AreRootColumns}
 use Rattle.tall_gather.specs.Going.{IsCaused}
-use Rattle.tall_environment.specs.Failures.{AreShort}
 use Rattle.tall_script_calls.specs.GatheredValues.{openings_by}
 use Rattle.tall_script_calls.proofs.GatherColumns.{allowed_same, columns_moved, roots_fit, stores_fit, told_by}
 use Rattle.tall_script_calls.proofs.GatherStores.{each_may, may_be_told}
@@ -27,11 +26,11 @@ returns-clause-caused g c = subst (λ list. IfErr c.gather-found.result (λ e. I
 
 pub returns-clause-possible : goal.returns-clause-possible
 returns-clause-possible g c =
-    each_may c.gather-found.result (λ files. g.S.Shelf.held c.args.shelf.now ≡ Some files) AreShort (λ files held short.
+    each_may c.gather-found.result (λ files. g.S.Shelf.held c.args.shelf.now ≡ Some files) (λ files held.
     let s = c.has_a_sense.ensures files in
     may_be_told (λ v. v.items) c.args.environment.now.stores s.1 c.args.roots.now c.gather-found.result
-    (c.gather-found.ensures.told files held c.args.environment.now.stores s.0 s.1 (told_by c.args.environment.now c.stores.result.now c.graph.result.now c.stores.ensures c.graph.ensures files s.0 s.1 short s.2)))
+    (c.gather-found.ensures.told files held c.args.environment.now.stores s.0 s.1 (told_by c.args.environment.now c.stores.result.now c.graph.result.now c.stores.ensures c.graph.ensures files s.0 s.1 s.2)))
 
 pub returns-clause-told : goal.returns-clause-told
-returns-clause-told g c = λ files held short columns f sense.
-    c.gather-found.ensures.told files held c.args.environment.now.stores columns f (told_by c.args.environment.now c.stores.result.now c.graph.result.now c.stores.ensures c.graph.ensures files columns f short sense)
+returns-clause-told g c = λ files held columns f sense.
+    c.gather-found.ensures.told files held c.args.environment.now.stores columns f (told_by c.args.environment.now c.stores.result.now c.graph.result.now c.stores.ensures c.graph.ensures files columns f sense)

@@ -15,7 +15,7 @@ returns-in_default g c = record {
   moves = moves_none g.S.Shelf c.args.environment.now c.args.shelf.now;
   within = tt;
   last = tt;
-  tells = λ files held short columns f sense. (
+  tells = λ files held columns f sense. (
       let args = arguments_at f c.args.args.items in
       let s = state_at f c.args.environment.now in
       refused (value_at f) (gather_call (at_seen c.args.at) args s) s c.args.at.line r.BadArgument (call_refused (at_seen c.args.at) args s (c.in_default.ensures.given f)));
@@ -32,7 +32,7 @@ returns g c = record {
   last =
       each_ok c.value_gathered.result
       (last_stays c.args.at.number c.args.environment.now c.value_gathered.new.environment (ap (λ (e : SeenEnvironment). e.graph) c.value_gathered.ensures.same) (ap (λ (e : SeenEnvironment). e.stores) c.value_gathered.ensures.same) (next_is_last c.args.at.number c.args.environment.now c.requires.next));
-  tells = λ files held short columns f sense.
-      call_answers (at_seen c.args.at) (arguments_at f c.args.args.items) f c.in-Some.value (state_at f c.args.environment.now) (state_at f c.value_gathered.new.environment) c.value_gathered.result (c.in-Some.ensures.given f) (c.value_gathered.ensures.tells files held short columns f sense);
+  tells = λ files held columns f sense.
+      call_answers (at_seen c.args.at) (arguments_at f c.args.args.items) f c.in-Some.value (state_at f c.args.environment.now) (state_at f c.value_gathered.new.environment) c.value_gathered.result (c.in-Some.ensures.given f) (c.value_gathered.ensures.tells files held columns f sense);
   blames = c.value_gathered.ensures.blames;
 }

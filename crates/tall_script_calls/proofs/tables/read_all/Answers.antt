@@ -14,10 +14,10 @@ use Rattle.tall_script_calls.proofs.tables.read_all.Goals as goal
 pub returns-in-Some : goal.returns-in-Some
 returns-in-Some c =
     let old = c.args.environment.now in
-    computes_same c.args.at.number (λ files f. readall_answer (all_of value_given (arguments_at f c.args.args.now))) old c.copied_table.result c.requires.next
-    (c.copied_table.ensures.within (length old.graph) (c.in-Some.ensures.within (length old.graph) c.requires.arguments))
-    (λ files f. subst (λ w. Comes (value_at f) w c.copied_table.result)
-    (sym (readall_one (arguments_at f c.args.args.now) (value_at f c.in-Some.value.now) (sym (c.in-Some.ensures.value f)))) (c.copied_table.ensures.given f))
+    computes_same c.args.at.number (λ files f. readall_answer (all_of value_given (arguments_at f c.args.args.now))) old c.shared_table.result c.requires.next
+    (c.shared_table.ensures.within (length old.graph) (c.in-Some.ensures.within (length old.graph) c.requires.arguments))
+    (λ files f. subst (λ w. Comes (value_at f) w c.shared_table.result)
+    (sym (readall_one (arguments_at f c.args.args.now) (value_at f c.in-Some.value.now) (sym (c.in-Some.ensures.value f)))) (c.shared_table.ensures.given f))
 
 pub returns-in-None : goal.returns-in-None
 returns-in-None c =

@@ -44,7 +44,7 @@ returns-in-Ok g c =
     let new : SeenSession = record { script = c.session.inside.script; place = c.session.inside.place + 1; has_ended = c.session.inside.has_ended; environment = c.statement-ran.new.environment } in
     subst (λ o. RunsNext {Z = Global} g.S.Shelf o new c.args.shelf.now c.statement-ran.new.shelf (Ok c.in-Ok.text)) c.session.view_is
     (ran_text g.S.Shelf c.args.shelf.now c.statement-ran.new.shelf (the_view c.session.inside) new (entry_of x) (drop (c.session.inside.place + 1) (map entry_of xs)) c.statement-ran.result
-    (next_left entry_of xs c.session.inside.place x here is) refl c.statement-ran.ensures.goes (λ files told short. subst HasDistinctFiles (sym c.session.view_is) (c.requires.distinct files told short)) c.has_a_sense.ensures
+    (next_left entry_of xs c.session.inside.place x here is) refl c.statement-ran.ensures.goes (λ files told. subst HasDistinctFiles (sym c.session.view_is) (c.requires.distinct files told)) c.has_a_sense.ensures
     (subst (λ fs. TellsDone g.S.Shelf c.args.shelf.now (λ files t. statement (record { files = files; functions = map routine_of fs }) (entry_of x) t) c.session.inside.environment c.statement-ran.new.environment c.statement-ran.result)
     c.as_slice-2.ensures c.statement-ran.ensures.tells)
     c.statement-ran.ensures.still c.in-Ok.text c.in-Ok.is refl refl)
@@ -58,7 +58,7 @@ returns-in-Err g c =
     let new : SeenSession = record { script = c.session.inside.script; place = c.session.inside.place; has_ended = true; environment = c.statement-ran.new.environment } in
     subst (λ o. RunsNext {Z = Global} g.S.Shelf o new c.args.shelf.now c.statement-ran.new.shelf (Err c.ending_at.result)) c.session.view_is
     (ran_failed g.S.Shelf c.args.shelf.now c.statement-ran.new.shelf (the_view c.session.inside) new (entry_of x) (drop (c.session.inside.place + 1) (map entry_of xs)) c.statement-ran.result
-    (next_left entry_of xs c.session.inside.place x here is) refl c.statement-ran.ensures.goes (λ files told short. subst HasDistinctFiles (sym c.session.view_is) (c.requires.distinct files told short)) c.has_a_sense.ensures
+    (next_left entry_of xs c.session.inside.place x here is) refl c.statement-ran.ensures.goes (λ files told. subst HasDistinctFiles (sym c.session.view_is) (c.requires.distinct files told)) c.has_a_sense.ensures
     (subst (λ fs. TellsDone g.S.Shelf c.args.shelf.now (λ files t. statement (record { files = files; functions = map routine_of fs }) (entry_of x) t) c.session.inside.environment c.statement-ran.new.environment c.statement-ran.result)
     c.as_slice-2.ensures c.statement-ran.ensures.tells)
     c.statement-ran.ensures.still c.in-Err.failure c.ending_at.result c.in-Err.is refl c.ending_at.ensures c.in-Err.ensures.blames)

@@ -1,5 +1,5 @@
 use Rattle.std.proofs.Common.{rules, ◌≡◌, ◌∙◌, ap, subst, sym, false}
-use Rattle.std.specs.Prelude.{Err, IfSome, ◌≢◌}
+use Rattle.std.specs.Prelude.{Err, IfOk, IfSome, ◌≢◌}
 use Rattle.tall_store.specs.declared.faults.StoreFault.TheVariants.{TooLarge}
 use Rattle.tall_store.specs.Options.{is_accepted, options_seen}
 use Rattle.tall_store.specs.Opening.{IsWithin, Opens, opening}
@@ -14,8 +14,11 @@ returns-then-not-is_accepted-clause-told g c =
 
 pub returns-clause-told : goal.returns-clause-told
 returns-clause-told g c =
-    subst (λ o. IfSome (g.S.Shelf.held c.args.shelf.now) (λ files. IsWithin files o → Opens (opening files o) c.open_chosen.result)) c.in-Ok.ensures c.open_chosen.ensures.told
+    subst (λ o. IfSome (g.S.Shelf.held c.args.shelf.now) (λ files. Opens (opening files o) c.open_chosen.result)) c.in-Ok.ensures c.open_chosen.ensures.told
 
 pub returns-clause-within : goal.returns-clause-within
 returns-clause-within g c =
     subst (λ o. IfSome (g.S.Shelf.held c.args.shelf.now) (λ files. IsWithin files o → c.open_chosen.result ≢ Err TooLarge)) c.in-Ok.ensures c.open_chosen.ensures.within
+
+pub returns-clause-files : goal.returns-clause-files
+returns-clause-files g c = subst (λ o. IfOk c.open_chosen.result (λ store. store.files ≡ o.files)) c.in-Ok.ensures c.open_chosen.ensures.files
