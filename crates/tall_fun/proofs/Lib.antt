@@ -7,3 +7,4 @@ pub mod FrameLemmas
 pub mod LoopLemmas
 pub mod RunLemmas
 pub mod CallLemmas
+pub mod PlainLemmas

@@ -5,3 +5,4 @@ pub mod Frames
 pub mod Faults
 pub mod Bounds
 pub mod Loops
+pub mod Plain

@@ -3,7 +3,10 @@ ghost use Rattle.std.specs.Prelude.{◌≡◌, Ok, true};
 ghost use Rattle.tall_grammar.specs.Views.{tree_of};
 ghost use Rattle.std.specs.Option.{is_some};
 ghost use Rattle.tall_local.specs.Calls.{local_value};
-ghost use Rattle.tall_local.specs.Expressions.{Valued, value};
+ghost use Rattle.tall_local.specs.Expressions.{Valued, gives, value};
+ghost use Rattle.tall_local.specs.Locals as locals;
+ghost use Rattle.tall_local.specs.Memory.{scalar};
+ghost use Rattle.tall_value.specs.Cells.{seen};
 ghost use Rattle.tall_local.specs.Locals.{Held, Locals, function_language, memory_of};
 ghost use Rattle.tall_evaluate.specs.Senses.{Agrees, CallDoes, DoesValue};
 ghost use Rattle.tall_fun.specs.Failures.{stop_of};
@@ -13,9 +16,10 @@ ghost use Rattle.tall_fun.specs.Values.{GivesHeld, held_seen};
 
 use crate::failures::{Failure, no_memory};
 use crate::names::Names;
+use crate::plain::plain_value;
 use crate::scope::Scope;
 use crate::turns::Turns;
-use crate::values::{LocalValue, copied, kept};
+use crate::values::{LocalValue, copied, kept, kept_scalar};
 use std::alloc::Global;
 use tall_column::Column;
 use tall_evaluate::{Argument, Place, evaluate};
@@ -23,6 +27,7 @@ use tall_grammar::Expr;
 use tall_kv::Pairs;
 use tall_local::LocalFunction;
 use tall_memory::MemoryFault;
+use tall_value::Cell;
 
 /// The names of a call, how many values its iterator has given, the turns of loops that began, and the store.
 #[derive(Drop)]
@@ -100,6 +105,31 @@ pub(crate) fn value_of<'b>(
     frame: &mut Frame<'_>,
     e: &Expr,
 ) -> Result<LocalValue<'b>, Failure>
+    ensures { Agrees held_seen stop_of (local_value values.now.cells (tree_of e.now) (frame_state frame.old)) result (frame_state frame.new) }
+{
+    let mut given = frame.given;
+    match plain_value(&frame.names, values, &mut given, e) {
+        Some(c) => {
+            let answer = kept_answer(frame.alloc, &c);
+            frame.given = given;
+            answer
+        }
+        None => walked(values, frame, e),
+    }
+}
+
+/// A scalar, kept; or no memory.
+fn kept_answer<'b>(alloc: Global, c: &Cell<'_>) -> Result<LocalValue<'b>, Failure>
+    ensures { (t : Locals) → Agrees held_seen stop_of (gives (locals.value (scalar (seen c.now))) t) result t }
+{
+    match kept_scalar(alloc, c) {
+        Ok(v) => Ok(v),
+        Err(_) => Err(no_memory()),
+    }
+}
+
+/// The value of an expression by the walk over all expressions.
+fn walked<'b>(values: &Column, frame: &mut Frame<'_>, e: &Expr) -> Result<LocalValue<'b>, Failure>
     ensures { Agrees held_seen stop_of (local_value values.now.cells (tree_of e.now) (frame_state frame.old)) result (frame_state frame.new) }
 {
     let mut scope = Scope {

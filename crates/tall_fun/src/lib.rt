@@ -11,6 +11,7 @@ mod frame;
 mod functions;
 mod loops;
 mod names;
+mod plain;
 mod run;
 mod scope;
 mod statements;

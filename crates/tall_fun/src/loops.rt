@@ -24,7 +24,7 @@ use tall_value::{Cell, Name};
 // ---- loops that wait for the iterator
 
 /// The name that an expression is.
-fn name_in(e: &Expr) -> Option<&Name>
+pub(crate) fn name_in(e: &Expr) -> Option<&Name>
     ensures { option_map (λ x. x.now) result ≡ name_in (tree_of e.now) }
 {
     match &e.node {
@@ -85,7 +85,7 @@ fn has_next_in<'a>(callee: &Expr, args: &'a [Arg]) -> Option<&'a Name>
 }
 
 /// The name is the iterator.
-fn is_iterator(names: &Names<'_>, name: &str) -> bool
+pub(crate) fn is_iterator(names: &Names<'_>, name: &str) -> bool
     ensures { result ≡ is_iterator (named names.now name.now) }
 {
     match names.get(name) {

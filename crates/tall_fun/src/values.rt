@@ -1,8 +1,9 @@
 //! Values inside a function.
-ghost use Rattle.std.specs.Prelude.{◌≡◌, IfOk, Ok, Result, Some, option_map};
+ghost use Rattle.std.specs.Prelude.{◌≡◌, IfOk, IfSome, Ok, Result, Some, option_map};
 ghost use Rattle.std.specs.Option.{is_some};
 ghost use Rattle.tall_local.specs.Locals as locals;
 ghost use Rattle.tall_local.specs.Locals.{Held, is_held_scalar, held, memory_of};
+ghost use Rattle.tall_local.specs.Memory as memory;
 ghost use Rattle.tall_local.specs.Memory.{Memory, scalar};
 ghost use Rattle.tall_value.specs.Cells.{seen};
 ghost use Rattle.tall_local.specs.Refusals.{Refusal, undefined};
@@ -48,6 +49,30 @@ fn lent<'n>(alloc: Global, v: &'n MemoryValue) -> Result<LocalValue<'n>, MemoryF
     }
 }
 
+/// The scalar that is kept, if it is one.
+fn scalar_in(v: &MemoryValue) -> Option<Cell<'_>>
+    ensures { IfSome result (λ c. value_seen v.now ≡ scalar (seen c)) }
+{
+    match v.lend() {
+        MemoryRef::Scalar(c) => Some(c),
+        MemoryRef::Column(_) => None,
+        MemoryRef::Table(_) => None,
+        MemoryRef::Texts(_) => None,
+    }
+}
+
+/// The column that is kept, if it is one.
+fn column_in(v: &MemoryValue) -> Option<&Column>
+    ensures { IfSome result (λ x. value_seen v.now ≡ memory.column x.now) }
+{
+    match v.lend() {
+        MemoryRef::Column(x) => Some(x),
+        MemoryRef::Scalar(_) => None,
+        MemoryRef::Table(_) => None,
+        MemoryRef::Texts(_) => None,
+    }
+}
+
 fn is_kept_scalar(v: &MemoryValue) -> bool
     ensures { result ≡ is_held_scalar (locals.value (value_seen v.now)) }
 {
@@ -72,6 +97,36 @@ impl<'n> LocalValue<'n> {
             LocalValue::Store => Ok(LocalValue::Store),
             LocalValue::Iterator => Ok(LocalValue::Iterator),
             LocalValue::NoValue => Ok(LocalValue::NoValue),
+        }
+    }
+
+    /// The scalar, if the value is one.
+    pub(crate) fn scalar(&self) -> Option<Cell<'_>>
+        ensures { IfSome result (λ c. held_seen self.now ≡ locals.value (scalar (seen c))) }
+    {
+        match self {
+            LocalValue::Kept(v) => scalar_in(v),
+            LocalValue::Column(_) => None,
+            LocalValue::Table(_) => None,
+            LocalValue::Texts(_) => None,
+            LocalValue::Store => None,
+            LocalValue::Iterator => None,
+            LocalValue::NoValue => None,
+        }
+    }
+
+    /// The column, if the value is one.
+    pub(crate) fn column(&self) -> Option<&Column>
+        ensures { IfSome result (λ x. held_seen self.now ≡ locals.value (memory.column x.now)) }
+    {
+        match self {
+            LocalValue::Kept(v) => column_in(v),
+            LocalValue::Column(x) => Some(x),
+            LocalValue::Table(_) => None,
+            LocalValue::Texts(_) => None,
+            LocalValue::Store => None,
+            LocalValue::Iterator => None,
+            LocalValue::NoValue => None,
         }
     }
 

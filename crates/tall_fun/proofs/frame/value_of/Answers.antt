@@ -1,14 +1,13 @@
-use Rattle.std.proofs.Common.{refl, ap}
-use Rattle.tall_grammar.specs.Views.{tree_of}
-use Rattle.tall_local.specs.Calls.{local_value}
+use Rattle.std.proofs.Common.{sym, subst}
 use Rattle.tall_local.specs.Locals.{Locals}
+use Rattle.tall_evaluate.specs.Senses.{Agrees}
+use Rattle.tall_fun.specs.Failures.{stop_of}
 use Rattle.tall_fun.specs.Frames.{frame_state}
-use Rattle.tall_fun.proofs.FrameLemmas.{evaluated_by}
+use Rattle.tall_fun.specs.Values.{held_seen}
 use Rattle.tall_fun.proofs.frame.value_of.Goals as goal
 
-pub returns : goal.returns
-returns c =
+pub returns-in-Some : goal.returns-in-Some
+returns-in-Some c =
     let s : Locals = frame_state c.args.frame.now in
-    c.owned_answer-answer.ensures (local_value c.args.values.now.cells (tree_of c.args.e.now) s) (record s { given = c.evaluated.new.scope.given })
-    (evaluated_by c.args.values.now.cells (tree_of c.args.e.now) s _ c.evaluated.new.scope c.evaluated.result
-    (ap (λ n. record s { turns = n }) c.count.ensures) refl c.evaluated.ensures)
+    let t : Locals = record s { given = c.plain_value.new.given } in
+    subst (λ w. Agrees held_seen stop_of w c.kept_answer-answer.result t) (sym (c.in-Some.ensures.comes s.turns s.pairs)) (c.kept_answer-answer.ensures t)
