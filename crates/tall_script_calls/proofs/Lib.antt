@@ -7,7 +7,6 @@ mod GatherStores
 mod GatherTells
 mod GatheredLaws
 mod ReadingLaws
-mod WatchLaws
 mod OpenedLaws
 mod MakeLaws
 mod SingleLaws

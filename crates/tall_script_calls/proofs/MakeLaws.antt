@@ -38,7 +38,7 @@ use Rattle.tall_environment.specs.Failures.{stop_of}
 use Rattle.tall_environment.specs.Moves.{Moves}
 use Rattle.tall_environment.specs.MoveLaws.{moves_both, moves_made, moves_opened}
 use Rattle.tall_script_calls.specs.Making.{allowed_first, failing}
-use Rattle.tall_script_calls.specs.Watching.{IsOpening}
+use Rattle.tall_script_calls.specs.Openings.{IsOpening}
 use Rattle.tall_script_calls.proofs.OpenedLaws.{opening_blames, opening_due, opening_grows, opening_made, opening_within}
 
 -- ---- the openings

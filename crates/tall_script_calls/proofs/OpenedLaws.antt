@@ -28,7 +28,7 @@ use Rattle.tall_sources.specs.declared.opening.OpenFault.TheVariants as fault
 use Rattle.tall_environment.specs.Failures.{Blames, IsOpened}
 use Rattle.tall_environment.specs.Moves.{OpensMore, OpensWithin}
 use Rattle.tall_script_calls.specs.Making.{failing}
-use Rattle.tall_script_calls.specs.Watching.{IsOpening, OpensFor}
+use Rattle.tall_script_calls.specs.Openings.{IsOpening}
 
 -- ---- names that were opened
 
@@ -56,15 +56,6 @@ one_allowed first name = by (bytes_eq first name) (bytes_eq-Decides first name) 
   by : (b : Bool) → Decides b (first ≡ name) → 0 + (if b then 1 else 0) ≤ times_allowed name (record { files = first ∷ []; times = 1 } ∷ [])
   by true d = subst (λ m. 0 + 1 ≤ times_allowed m (record { files = first ∷ []; times = 1 } ∷ [])) (d.0 refl) (omega (arith, here))
   by false d = omega arith
-
-pub once_for : (name : List ℕ) (before now : Option (List (List ℕ))) (r : Result SeenStore OpenFault) → OpensFor name r before now → OpensOnce name before now
-once_for name before now (Ok store) h = h
-once_for name before now (Err fault.BadArgument) h = h
-once_for name before now (Err (fault.NoFile file)) h = h
-once_for name before now (Err (fault.NoHeader file)) h = h
-once_for name before now (Err (fault.Failed file)) h = inr h
-once_for name before now (Err (fault.TooLarge file)) h = inr h
-once_for name before now (Err fault.Memory) h = h
 
 pub grows_once : (name : List ℕ) (before now : Option (List (List ℕ))) → OpensOnce name before now → OpensMore before now
 grows_once name before now once names told = by now (subst (λ b. OpensOnce name b now) told once) where
@@ -171,7 +162,7 @@ told_at P held files e h = subst (λ x. IfSome x P) e h
 
 module _ {S : Type 0} (s : shelf.Ghosts S) (wanted : Option SeenOptions) (before now : S) (r : Result SeenStore OpenFault) (o : IsOpening s wanted before now r) where
   pub opening_grows : OpensMore (s.opened before) (s.opened now)
-  opening_grows = grows_once (first_given wanted) (s.opened before) (s.opened now) (once_for (first_given wanted) (s.opened before) (s.opened now) r o.opens)
+  opening_grows = grows_once (first_given wanted) (s.opened before) (s.opened now) o.once
 
   pub opening_due : (files : Files) → s.held before ≡ Some files → OpensTo (store_due files wanted) r
   opening_due files held = told_at (λ files. OpensTo (store_due files wanted) r) (s.held before) files held o.told
@@ -179,9 +170,9 @@ module _ {S : Type 0} (s : shelf.Ghosts S) (wanted : Option SeenOptions) (before
 pub opening_within : {S : Type 0} (s : shelf.Ghosts S) (wanted : Option SeenOptions) (before now : S) (r : Result SeenStore OpenFault) → IsOpening s wanted before now r
     → OpensWithin (openings_due wanted) (s.opened before) (s.opened now)
 opening_within s None before now r o =
-    within_by false [] (s.opened before) (s.opened now) (λ e. ap s.opened ((o.refused refl).1)) (once_for [] (s.opened before) (s.opened now) r o.opens)
+    within_by false [] (s.opened before) (s.opened now) (λ e. ap s.opened ((o.refused refl).1)) o.once
 opening_within s (Some a) before now r o =
-    within_by (is_accepted a) (first_name a.files) (s.opened before) (s.opened now) (λ e. ap s.opened ((o.refused e).1)) (once_for (first_name a.files) (s.opened before) (s.opened now) r o.opens)
+    within_by (is_accepted a) (first_name a.files) (s.opened before) (s.opened now) (λ e. ap s.opened ((o.refused e).1)) o.once
 
 -- the datastore that is made lists no file twice
 pub opening_made : {S : Type 0} (s : shelf.Ghosts S) (wanted : Option SeenOptions) (before now : S) (store : SeenStore) → IsOpening s wanted before now (Ok store)
@@ -219,10 +210,10 @@ pub opening_blames : {S : Type 0} (s : shelf.Ghosts S) (wanted : Option SeenOpti
 opening_blames s wanted before now line fault.BadArgument o = tt
 opening_blames s wanted before now line (fault.NoFile name) o = o.explained
 opening_blames s wanted before now line (fault.NoHeader name) o = tt
-opening_blames s wanted before now line (fault.Failed name) o = (o.explained, opened_more s (first_given wanted) name before now o.named o.opens)
+opening_blames s wanted before now line (fault.Failed name) o = (o.explained, opened_more s (first_given wanted) name before now o.named (o.opened tt))
 opening_blames s wanted before now line (fault.TooLarge name) o = (
   o.explained,
-  opened_more s (first_given wanted) name before now o.named o.opens,
+  opened_more s (first_given wanted) name before now o.named (o.opened tt),
   λ files held. first_long files wanted name o.named (λ within. not_large s wanted before now name o files held within),
 )
 opening_blames s wanted before now line fault.Memory o = tt

@@ -1,7 +1,7 @@
 pub mod GatherFailures
 pub mod GatheredValues
 pub mod ReadingFailures
-pub mod Watching
+pub mod Openings
 pub mod Making
 pub mod Single
 pub mod Reductions

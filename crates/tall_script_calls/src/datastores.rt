@@ -15,14 +15,14 @@ ghost use Rattle.tall_environment.specs.Environments.{IsNext, opening_of};
 ghost use Rattle.tall_environment.specs.Expressions.{Evaluates};
 ghost use Rattle.tall_environment.specs.Values.{arguments_at};
 ghost use Rattle.tall_script_calls.specs.Making.{failing};
+ghost use Rattle.tall_script_calls.specs.Openings.{IsOpening};
 
-use crate::watching::open_store;
 use std::alloc::Global;
 use tall_deferred::{At, ScriptRef, ScriptValue};
 use tall_environment::{Environment, Failure, Refusal, values_lent};
 use tall_evaluate::Argument;
 use tall_outside::Shelf;
-use tall_sources::{OpenFault, calls_of_datastores};
+use tall_sources::{OpenFault, calls_of_datastores, open_datastore};
 use tall_store::Datastore;
 
 /// The failure of an opening, on the line of its call.
@@ -73,6 +73,18 @@ fn added(environment: &mut Environment, at: At, store: Datastore) -> Result<Scri
         Ok(place) => Ok(ScriptValue::Datastore(place)),
         Err(_) => Err(Failure::Memory),
     }
+}
+
+/// The datastore of a call, as `open_datastore` gives it.
+fn open_store<S: Shelf>(
+    alloc: Global,
+    shelf: &mut S,
+    args: &Vec<ScriptRef<'_>>,
+) -> Result<Datastore, OpenFault>
+    ensures opening { IsOpening S.Shelf (options_lent args.now.items) shelf.old shelf.new result }
+    ensures given { (f : ℕ → Tall) → option_and_then arguments.options_given (all_of value_in_memory (map (lent_at f) args.now.items)) ≡ options_lent args.now.items }
+{
+    open_datastore(alloc, shelf, args.as_slice())
 }
 
 /// One more datastore, by the values of the arguments. What the call may open is allowed before it is known what comes of it.

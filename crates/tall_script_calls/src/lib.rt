@@ -8,7 +8,6 @@ mod faults;
 mod gathers;
 mod reducing;
 mod tables;
-mod watching;
 
 pub use datastores::make_datastore;
 pub use gathers::{gather_all, gather_one};

@@ -1,8 +1,8 @@
 //! The making of a datastore (docs/LANGUAGE.md, datastores in scripts).
-ghost use Rattle.std.specs.Prelude.{◌≡◌, ◌≢◌, ◌<◌, ◌^◌, IfErr, IfSome, Err, Some, false, ℕ, length, map, option_and_then};
-ghost use Rattle.tall_outside.specs.OpenedNames.{OpensOnce};
+ghost use Rattle.std.specs.Prelude.{◌≡◌, ◌≢◌, ◌<◌, ◌^◌, ◌∷◌, [], IfErr, IfSome, Err, Some, false, ℕ, length, map, option_and_then};
+ghost use Rattle.tall_outside.specs.OpenedNames.{Adds, OpensOnce};
 ghost use Rattle.tall_outside.specs.ShelfCounts.{IsLater, shelf_counts};
-ghost use Rattle.tall_store.specs.Causes.{IsExplained, RefusesUnopened};
+ghost use Rattle.tall_store.specs.Causes.{HasOpened, IsExplained, RefusesUnopened};
 ghost use Rattle.tall_store.specs.Opening.{IsWithin, first_name};
 ghost use Rattle.tall_store.specs.Options.{is_accepted, options_seen};
 ghost use Rattle.tall_store.specs.declared.faults.StoreFault.TheVariants as store_fault;
@@ -74,6 +74,7 @@ fn open_named<S: Shelf>(
     ensures later { IsLater (shelf_counts S.Shelf shelf.old) (shelf_counts S.Shelf shelf.new) }
     ensures refused { is_accepted (options_seen options) ≡ false → RefusesUnopened (unnamed result) × (shelf.new ≡ shelf.old) }
     ensures once { OpensOnce (first_name (options_seen options).files) (S.opened shelf.old) (S.opened shelf.new) }
+    ensures opened { HasOpened (unnamed result) → Adds (first_name (options_seen options).files ∷ []) (S.opened shelf.old) (S.opened shelf.new) }
 {
     match Datastore::open(alloc, shelf, options) {
         Ok(store) => Ok(store),
@@ -95,6 +96,7 @@ fn open_options<S: Shelf>(
     ensures later { IsLater (shelf_counts S.Shelf shelf.old) (shelf_counts S.Shelf shelf.new) }
     ensures refused { is_accepted (options_seen options) ≡ false → RefusesUnopened (unnamed result) × (shelf.new ≡ shelf.old) }
     ensures once { OpensOnce (first_name (options_seen options).files) (S.opened shelf.old) (S.opened shelf.new) }
+    ensures opened { HasOpened (unnamed result) → Adds (first_name (options_seen options).files ∷ []) (S.opened shelf.old) (S.opened shelf.new) }
 {
     if options.files.is_empty() {
         return Err(OpenFault::BadArgument);
@@ -127,6 +129,7 @@ pub fn open_datastore<S: Shelf>(
     ensures later { IsLater (shelf_counts S.Shelf shelf.old) (shelf_counts S.Shelf shelf.new) }
     ensures refused { makes_datastore (options_lent args.now) ≡ false → RefusesUnopened (unnamed result) × (shelf.new ≡ shelf.old) }
     ensures once { OpensOnce (first_given (options_lent args.now)) (S.opened shelf.old) (S.opened shelf.new) }
+    ensures opened { HasOpened (unnamed result) → Adds (first_given (options_lent args.now) ∷ []) (S.opened shelf.old) (S.opened shelf.new) }
 {
     match options_given(alloc, args) {
         Ok(Some(options)) => open_options(alloc, shelf, options),
