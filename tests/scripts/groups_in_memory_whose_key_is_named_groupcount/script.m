@@ -1,3 +1,3 @@
 ds = tabularTextDatastore('a.csv', 'TextscanFormats', {'%f'});
-M = readall(ds);
+M = gather(tall(ds));
 G = groupsummary(M, 'GroupCount');
