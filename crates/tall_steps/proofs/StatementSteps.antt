@@ -1,12 +1,17 @@
 -- What a statement in code did, as a step of a session.
-use Rattle.std.proofs.Common.{ℕ, ◌≡◌, ◌∙◌, ◌≤◌, ◌<◌, ◌+◌, ◌-◌, suc, List, [], ◌∷◌, ◌++◌, length, drop, map, refl, ap, subst, sym, arith, append-nil}
-use Rattle.std.specs.Prelude.{true, Option, None, Some, IfSome, Result, Ok, Err, Vec, ◌^◌}
+use Rattle.std.proofs.Common.{ℕ, ◌≡◌, ◌∙◌, ◌≤◌, ◌<◌, ◌+◌, ◌-◌, zero, suc, List, [], ◌∷◌, ◌++◌, length, drop, map, refl, ap, subst, sym, arith, append-nil}
+use Rattle.std.specs.List.{All}
+use Rattle.std.specs.Prelude.{true, Option, None, Some, IfSome, Result, Ok, Err, Vec}
 use Rattle.std.proofs.lemmas.List.{length-drop, length-map}
 use Rattle.tall_grammar.specs.Trees.{SeenStatement}
 use Rattle.tall_local.specs.Refusals.{Stop, stop_at}
 use Rattle.tall_outside.specs.Shelf.{Files, openings_of}
 use Rattle.tall_outside.specs.declared.shelf.Shelf as shelf
 use Rattle.tall_store.specs.FileEnds.{IsTooLong}
+use Rattle.tall_store.specs.Stores.{SeenStore}
+use Rattle.tall_stored.specs.StoredColumns.{Store}
+use Rattle.tall_sources.specs.Sources.{store_in}
+use Rattle.tall_value.specs.Names.{are_distinct}
 use Rattle.tall_script.specs.OpeningLaws.{opens_none}
 use Rattle.tall_script.specs.ScriptLanguage.{Setting}
 use Rattle.tall_script.specs.Statements.{Done, statement}
@@ -25,7 +30,7 @@ use Rattle.tall_environment.specs.Moves.{HaveDistinctFiles}
 use Rattle.tall_statements.specs.Answers.{Answers, Goes, TellsDone}
 use Rattle.tall_steps.specs.Ends.{End, IsExplained, IsMissed}
 use Rattle.tall_steps.specs.Failing.{end_of}
-use Rattle.tall_steps.specs.Sessions.{HasDistinctFiles, MayMean, SeenSession, Sense, left_in, program_in, setting_in, state_in}
+use Rattle.tall_steps.specs.Sessions.{MayMean, SeenSession, Sense, left_in, program_in, setting_in, state_in}
 use Rattle.tall_steps.specs.Steps.{HasEnd, IsOfStatement, OpensBetween, RunsNext, StepOpens, StopsAs}
 use Rattle.tall_steps.specs.declared.endings.Ending.{Ending}
 use Rattle.tall_steps.proofs.Progressing.{has_end}
@@ -57,6 +62,16 @@ opens_on want (Err e) t a = by (stop_of e) refl
     by : (o : Option Stop) → stop_of e ≡ o → OpensOn t (done_state want)
     by None none = a.unfinished e refl none
     by (Some stop) some = subst (λ d. OpensOn t (done_state d)) (sym (a.agrees stop some)) (same_openings t)
+
+same_store : (a b : Store) → Some a ≡ Some b → a ≡ b
+same_store a b e = cc
+
+-- what holds of each datastore holds at each place
+pub distinct_in : (stores : List Store) → All (λ (d : SeenStore). are_distinct d.files ≡ true) (map store_in stores) → HaveDistinctFiles stores
+distinct_in [] h zero d there = absurd cc
+distinct_in [] h (suc place) d there = absurd cc
+distinct_in (e ∷ stores) h zero d there = subst (λ (x : Store). are_distinct x.store.files ≡ true) (same_store e d there) (h 0 e.store (omega arith))
+distinct_in (e ∷ stores) h (suc place) d there = distinct_in stores (λ k x l. h (suc k) x (omega (arith, l))) place d there
 
 module _ {S : Type 0} (s : shelf.Ghosts S) (old new : SeenEnvironment) (before now : S) (goes : Goes s old new before now) where
   pub sense_before : (files : Files) (columns : Columns) (f : ℕ → Tall) → IsSense files new columns f → IsSense files old columns f
@@ -141,7 +156,7 @@ module _ {S : Type 0} (s : shelf.Ghosts S) (before now : S) where
 
 module _ {S Z : Type 0} (s : shelf.Ghosts S) (before now : S) (old new : SeenSession) (entry : SeenStatement) (rest : List SeenStatement) (ran : Result (Vec ℕ Z) Failure) (next : left_in old ≡ entry ∷ rest)
     (same : program_in new ≡ program_in old) (goes : Goes s old.environment new.environment before now)
-    (distinct : (files : Files) → s.held before ≡ Some files → HasDistinctFiles old)
+    (distinct : HaveDistinctFiles old.environment.stores)
     (some : (files : Files) → (columns : Columns) × (f : ℕ → Tall) × IsSense files new.environment columns f)
     (tells : TellsDone s before (λ files t. statement (setting_in files old) entry t) old.environment new.environment ran)
     (still : opens_none entry.form ≡ true → now ≡ before) where
@@ -151,14 +166,11 @@ module _ {S Z : Type 0} (s : shelf.Ghosts S) (before now : S) (old new : SeenSes
   some_sense : (files : Files) → (sense : Sense) × MayMean files new sense
   some_sense files = let h = some files in (record { columns = h.0; values = h.1 }, h.2)
 
-  still_distinct : (files : Files) → s.held before ≡ Some files → HasDistinctFiles new
-  still_distinct files told = goes.opens.distinct files told (distinct files told)
-
   opens : (files : Files) → s.held before ≡ Some files → (sense : Sense) → MayMean files new sense
       → StepOpens (setting_in files old) (left_in old) (state_in sense old) (s.opened before) (s.opened now)
   opens files told sense h = λ one more is.
       subst (λ x. OpensBetween (state_in sense old) (done_state (statement (setting_in files old) x (state_in sense old))) (s.opened before) (s.opened now)) (first entry one rest more (sym next ∙ is))
-      (opens_between s old.environment new.environment before now goes files sense.values (done_state (statement (setting_in files old) entry (state_in sense old))) told (distinct files told)
+      (opens_between s old.environment new.environment before now goes files sense.values (done_state (statement (setting_in files old) entry (state_in sense old))) told distinct
       (opens_on (statement (setting_in files old) entry (state_in sense old)) ran (state_in sense new) (tells files told sense.columns sense.values h)))
     where
       first : (x y : SeenStatement) (xs ys : List SeenStatement) → x ∷ xs ≡ y ∷ ys → x ≡ y
@@ -184,7 +196,6 @@ module _ {S Z : Type 0} (s : shelf.Ghosts S) (before now : S) (old new : SeenSes
     };
     meant = meant;
     some = some_sense;
-    still_distinct = still_distinct;
     held = goes.held;
     grows = goes.opens.grows;
     later = goes.counts;
@@ -209,7 +220,6 @@ module _ {S Z : Type 0} (s : shelf.Ghosts S) (before now : S) (old new : SeenSes
     text = λ files told sense h. tt;
     meant = meant;
     some = some_sense;
-    still_distinct = still_distinct;
     held = goes.held;
     grows = goes.opens.grows;
     later = goes.counts;

