@@ -1,5 +1,5 @@
 -- What a script's file is, and why it is no script.
-use Rattle.std.specs.Prelude.{ℕ, ◌≡◌, List, [], length, Option, Some, IfSome, ⊤}
+use Rattle.std.specs.Prelude.{ℕ, ◌≡◌, List, [], length, Option, Some, IfSome}
 use Rattle.tall_answer.specs.CommandAnswers.{of_script}
 use Rattle.tall_grammar.specs.Refusals as parse
 use Rattle.tall_outside.specs.Count.{Rose}
